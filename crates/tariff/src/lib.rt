@@ -1,5 +1,6 @@
 // The tariff: which rates may be booked, and at what price.
 ghost use mathlib.Core.Path.{_≡_};
+ghost use Rattle.std.specs.Results.{isOk};
 ghost use Rattle.tariff.specs.Booking.{asked, told};
 ghost use Rattle.tariff.specs.Tariff.{in-tariff};
 use answer::Refusal;
@@ -13,11 +14,18 @@ pub use table::rates;
 // What the link is divided into.
 pub const LINK: u32 = 720_720;
 
+// Where the table has this rate, or where it would stand.
+fn search(units: u32) -> Result<usize, usize>
+    ensures { λ r. ⌜ isOk r ≡ in-tariff units ⌝ }
+{
+    rates().binary_search(&units)
+}
+
 // Whether the tariff has this rate.
 pub fn listed(units: u32) -> bool
     ensures { λ r. ⌜ r ≡ in-tariff units ⌝ }
 {
-    rates().binary_search(&units).is_ok()
+    search(units).is_ok()
 }
 
 impl Rate {

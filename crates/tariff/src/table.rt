@@ -2,6 +2,7 @@
 ghost use Rattle.tariff.specs.Tariff.{Whole};
 
 // Every divisor of the link, ascending.
+#[rattlefmt::skip]
 static TARIFF: [u32; 240] = [
     1, 2, 3, 4, 5, 6, 7, 8, 9, 10, 11, 12, 13, 14, 15, 16, 18, 20, 21, 22, 24, 26, 28, 30, 33, 35,
     36, 39, 40, 42, 44, 45, 48, 52, 55, 56, 60, 63, 65, 66, 70, 72, 77, 78, 80, 84, 88, 90, 91, 99,
