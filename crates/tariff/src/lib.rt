@@ -39,3 +39,39 @@ impl Rate {
         Ok(Rate::made(units, LINK / units))
     }
 }
+
+#[cfg(test)]
+mod tests {
+    use super::*;
+    use answer::RefusalDebug;
+    use std::test::*;
+
+    #[test]
+    fn prices() -> Result<(), Fail> {
+        for (units, price) in [(1, 720720), (7, 102960), (360360, 2), (720720, 1)] {
+            let rate = Rate::new(units)?;
+            check_eq((rate.units(), rate.price()), (units, price))?;
+        }
+        Ok(())
+    }
+
+    #[test]
+    fn refused() -> Result<(), Fail> {
+        for units in [0, 17, 720719, 720721, 1441440, u32::MAX] {
+            match Rate::new(units) {
+                Ok(_) => return Err(Fail::new("in the tariff")),
+                Err(why) => check_eq(why.number(), 8)?,
+            }
+        }
+        Ok(())
+    }
+
+    // Every number up to twice the link, against plain division.
+    #[test]
+    fn listed_are_the_divisors() -> Result<(), Fail> {
+        for units in 1..1441441u32 {
+            check_eq(listed(units), LINK % units == 0)?;
+        }
+        check_eq(listed(0), false)
+    }
+}
