@@ -7,15 +7,10 @@ use native.Mathlib.Omega.{arith}
 use lib.ListN.{length, take, drop, length-append}
 use Rattle.std.specs.Written.{decimal}
 use Rattle.std.proofs.shelf.Lists.{take-at, drop-at, drop-drop, length-take-le, take-all}
-use Rattle.std.proofs.shelf.Tests.{cases-lt, cond-false, le-ltb}
+use Rattle.std.proofs.shelf.Tests.{cases-lt}
 use mathlib.Core.Logic.{inl, inr}
 use Rattle.std.proofs.shelf.Decimals.{decimal-step, decimal-digit, length-decimal-le}
-use Rattle.std.specs.declared.result.Result.{Result}
-use Rattle.std.specs.declared.result.Result.the-variants.{Ok}
-use Rattle.answer.specs.declared.refusal.Refusal.{Refusal}
-use Rattle.record.specs.Lines.{lining}
-use Rattle.record.specs.Writing.{over}
-use Rattle.record.specs.Putting.{pasted, Put}
+use Rattle.record.specs.Putting.{pasted, Put, Lined}
 
 module _ (out : List ℕ) (at : ℕ) (a b : List ℕ) (room : at + length (a ++ b) ≤ length out) where
   fits : at + (length a + length b) ≤ length out
@@ -82,9 +77,7 @@ shown-is xs k e =
     | inr h ↦ (let eight : k ≡ 8 = omega arith in ap (λ (n : ℕ). take n xs) eight)
     ]
 
--- a line that was put at the front of a buffer with room for it
-pub at-front : {out now text : List ℕ} {r : ℕ} → Put out 0 text now r → 64 ≤ length out → (Ok r ≡ lining text out) × (now ≡ over text out)
-at-front {out} {now} {text} {r} p room =
-    let same : r ≡ length text = omega (arith, p .end) in
-    let ok : ℕ → Result ℕ Refusal = λ n. Ok n in
-    (ap ok same ∙ sym (cond-false _ _ _ (le-ltb (length out) 64 room)), p .after ∙ ap (λ (n : ℕ). text ++ drop n out) (zero-add (length text)))
+-- a line that was put at the front of a buffer
+pub at-front : {out now text : List ℕ} {r : ℕ} → Put out 0 text now r → r < 64 → Lined out text now r
+at-front {out} {now} {text} {r} p less =
+    record { after = p .after ∙ ap (λ (n : ℕ). text ++ drop n out) (zero-add (length text)); end = p .end ∙ zero-add (length text); short = less }

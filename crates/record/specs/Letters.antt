@@ -12,16 +12,16 @@ use Rattle.record.specs.declared.letter.Letter.{Letter}
 use Rattle.record.specs.declared.letter.Letter.the-variants.{O, C, A, G, B, T}
 
 -- the code of a text of one character
-abbrev pub char : String → ℕ
-char text = getD (codes text) 0 0
+abbrev pub code : String → ℕ
+code text = getD (codes text) 0 0
 
 abbrev pub byte-of : Letter → ℕ
-byte-of O = char "O"
-byte-of C = char "C"
-byte-of A = char "A"
-byte-of G = char "G"
-byte-of B = char "B"
-byte-of T = char "T"
+byte-of O = code "O"
+byte-of C = code "C"
+byte-of A = code "A"
+byte-of G = code "G"
+byte-of B = code "B"
+byte-of T = code "T"
 
 abbrev pub among : List Letter → ℕ → Option Letter
 among [] byte = None

@@ -20,15 +20,15 @@ use Rattle.answer.specs.declared.turn.Kind.{Kind}
 use Rattle.answer.specs.declared.turn.Kind.the-variants.{Normal, Credit, Kept, Extra, Idle}
 use Rattle.answer.specs.declared.turn.Sent.{Sent}
 use Rattle.answer.specs.declared.turn.Turn.{Turn}
-use Rattle.record.specs.Letters.{char, byte-of}
+use Rattle.record.specs.Letters.{code, byte-of}
 use Rattle.record.specs.Layout.{Contents}
 
 abbrev pub kind-byte : Kind → ℕ
-kind-byte Normal = char "n"
-kind-byte Credit = char "c"
-kind-byte Kept = char "k"
-kind-byte Extra = char "x"
-kind-byte Idle = char "i"
+kind-byte Normal = code "n"
+kind-byte Credit = code "c"
+kind-byte Kept = code "k"
+kind-byte Extra = code "x"
+kind-byte Idle = code "i"
 
 -- the sender and the tag, or that there is none
 abbrev pub sent-text : Option Sent → List ℕ
@@ -60,7 +60,7 @@ abbrev pub line-text : ℕ → Contents → Result Answer Refusal → List ℕ
 line-text number c result = head-text number (byte-of (c .letter)) result ++ (codes " " ++ (take 8 (c .note) ++ newline))
 
 abbrev pub fault-text : ℕ → Refusal → List ℕ
-fault-text number why = head-text number (char "?") (Err why) ++ newline
+fault-text number why = head-text number (code "?") (Err why) ++ newline
 
 -- what a call for a line answers: its length, if there is room for the longest
 abbrev pub lining : List ℕ → List ℕ → Result ℕ Refusal

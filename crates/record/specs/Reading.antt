@@ -17,7 +17,7 @@ use Rattle.answer.specs.declared.refusal.Refusal.{Refusal}
 use Rattle.answer.specs.declared.refusal.Refusal.the-variants.{TruncatedRecord, UnknownLetter, UnusedByteNotZero, NoteNotPrintable}
 use Rattle.record.specs.declared.event.Event.{Event}
 use Rattle.record.specs.declared.letter.Letter.{Letter}
-use Rattle.record.specs.Letters.{letter-of}
+use Rattle.record.specs.Letters.{code, letter-of}
 use Rattle.record.specs.Layout.{Contents, contents, decoded, unused, note-at, record-end}
 
 abbrev pub fault : Refusal → ℕ → ℕ → Fault
@@ -34,7 +34,7 @@ first-used part bytes = first-outside 0 0 (part .0) (between (part .0) (part .1)
 
 -- the first byte of a note that is not printable
 abbrev pub first-unprintable : List ℕ → Option ℕ
-first-unprintable note = first-outside 32 126 note-at note
+first-unprintable note = first-outside (code " ") (code "~") note-at note
 
 -- a fault where a byte was found, and otherwise what follows
 abbrev pub unless : {X : Type 0} → Option ℕ → Refusal → ℕ → Result X Fault → Result X Fault

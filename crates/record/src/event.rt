@@ -4,7 +4,7 @@ ghost use Rattle.record.specs.Layout.{contents};
 use crate::letter::Letter;
 
 // The note is a part of the record that was read.
-#[derive(Clone, Copy)]
+#[derive(Clone, Copy, Debug)]
 pub enum Event<'a> {
     Open { place: u8, rate: u32, note: &'a [u8] },
     Close { place: u8, note: &'a [u8] },

@@ -2,6 +2,10 @@
 ghost use mathlib.Core.Path.{_≡_};
 ghost use Rattle.record.specs.Letters.{byte-of, letter-of};
 ghost use Rattle.record.specs.Layout.{unused};
+use crate::layout::LENGTH;
+use crate::layout::NOTE;
+use crate::layout::PLACE;
+use crate::layout::VALUE;
 
 // Opening, closing, arrival, good and bad channel, turn.
 #[derive(Clone, Copy, PartialEq, Eq, Debug)]
@@ -49,10 +53,10 @@ impl Letter {
         ensures { λ r. ⌜ r ≡ unused self ⌝ }
     {
         match self {
-            Letter::O => (2, 4),
-            Letter::A => (8, 8),
-            Letter::T => (1, 8),
-            Letter::C | Letter::G | Letter::B => (2, 8),
+            Letter::O => (LENGTH, VALUE),
+            Letter::A => (NOTE, NOTE),
+            Letter::T => (PLACE, NOTE),
+            Letter::C | Letter::G | Letter::B => (LENGTH, NOTE),
         }
     }
 }

@@ -1,5 +1,6 @@
 // Events as records of sixteen bytes: reading, writing, and the line that tells of each.
 mod event;
+mod layout;
 mod letter;
 mod lines;
 mod reader;

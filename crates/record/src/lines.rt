@@ -7,9 +7,8 @@ ghost use Rattle.record.specs.Layout.{contents};
 ghost use Rattle.record.specs.Lines.{fault-text, line-text, lining};
 ghost use Rattle.record.specs.Writing.{after as buffer-after};
 use crate::event::Event;
-use crate::text::put_bytes;
-use crate::text::put_head;
-use crate::text::put_note;
+use crate::text::put_fault;
+use crate::text::put_line;
 use answer::Answer;
 use answer::Refusal;
 
@@ -25,8 +24,7 @@ pub fn line(number: u64, event: Event, result: Result<Answer, Refusal>, out: &mu
     if out.len() < LINE {
         return Err(Refusal::BufferTooShort);
     }
-    let head = put_head(out, number, event.letter().byte(), result);
-    Ok(put_note(out, head, event.note()))
+    Ok(put_line(out, number, event, result))
 }
 
 // The line of a record in which no event was read.
@@ -38,6 +36,5 @@ pub fn fault_line(number: u64, why: Refusal, out: &mut [u8]) -> Result<usize, Re
     if out.len() < LINE {
         return Err(Refusal::BufferTooShort);
     }
-    let head = put_head(out, number, b'?', Err(why));
-    Ok(put_bytes(out, head, b"\n"))
+    Ok(put_fault(out, number, why))
 }

@@ -5,6 +5,8 @@ ghost use lib.ListN.{length};
 ghost use Rattle.record.specs.Reading.{fault as the-fault, first-outside, parsed, reading, told, told-event};
 ghost use Rattle.record.specs.Laws.{Writes-back};
 use crate::event::Event;
+use crate::layout::NOTE;
+use crate::layout::RECORD;
 use crate::letter::Letter;
 use answer::Fault;
 use answer::Layer;
@@ -44,7 +46,7 @@ fn parse<'a>(bytes: &'a [u8], number: u64) -> Result<Event<'a>, Fault>
     if let Some(byte) = first_outside(&bytes[from..to], from, 0, 0) {
         return Err(fault(Refusal::UnusedByteNotZero, number, byte));
     }
-    if let Some(byte) = first_outside(note, 8, 32, 126) {
+    if let Some(byte) = first_outside(note, NOTE, b' ', b'~') {
         return Err(fault(Refusal::NoteNotPrintable, number, byte));
     }
     let place = *place;
@@ -66,10 +68,10 @@ fn next<'a>(input: &'a [u8], number: u64) -> Result<Option<(Event<'a>, &'a [u8])
     if input.is_empty() {
         return Ok(None);
     }
-    if input.len() < 16 {
+    if input.len() < RECORD {
         return Err(fault(Refusal::TruncatedRecord, number, input.len()));
     }
-    let (bytes, rest) = input.split_at(16);
+    let (bytes, rest) = input.split_at(RECORD);
     let event = parse(bytes, number)?;
     Ok(Some((event, rest)))
 }

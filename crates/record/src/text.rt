@@ -5,15 +5,17 @@ ghost use Prim.Native.Nat.{_+_, _≤_};
 ghost use lib.Chars.{codes};
 ghost use lib.ListN.{length, take};
 ghost use Rattle.std.specs.Written.{decimal};
-ghost use Rattle.record.specs.Lines.{head-text, kind-byte, newline, refusal-text, result-text, sent-text, turn-text};
-ghost use Rattle.record.specs.Putting.{Put};
+ghost use Rattle.record.specs.Layout.{contents};
+ghost use Rattle.record.specs.Lines.{fault-text, head-text, kind-byte, line-text, newline, refusal-text, result-text, sent-text, turn-text};
+ghost use Rattle.record.specs.Putting.{Lined, Put};
+use crate::event::Event;
 use answer::Answer;
 use answer::Kind;
 use answer::Refusal;
 use answer::Sent;
 use answer::Turn;
 
-pub(crate) fn put_bytes(out: &mut [u8], at: usize, bytes: &[u8]) -> usize
+fn put_bytes(out: &mut [u8], at: usize, bytes: &[u8]) -> usize
     requires { ⌜ at + length (now bytes) ≤ length (now out) ⌝ }
     ensures { λ r. ⌜ Put (now (out .entry)) at (now (bytes .entry)) (now (out .exit)) r ⌝ }
 {
@@ -102,7 +104,7 @@ fn put_result(out: &mut [u8], at: usize, result: Result<Answer, Refusal>) -> usi
 }
 
 // Number, letter and result.
-pub(crate) fn put_head(out: &mut [u8], number: u64, letter: u8, result: Result<Answer, Refusal>) -> usize
+fn put_head(out: &mut [u8], number: u64, letter: u8, result: Result<Answer, Refusal>) -> usize
     requires { ⌜ 64 ≤ length (now out) ⌝ }
     ensures put { λ r. ⌜ Put (now (out .entry)) 0 (head-text number letter result) (now (out .exit)) r ⌝ }
     ensures bound { λ r. ⌜ r ≤ 49 ⌝ }
@@ -113,7 +115,7 @@ pub(crate) fn put_head(out: &mut [u8], number: u64, letter: u8, result: Result<A
 }
 
 // A space, the note's first eight bytes and a newline.
-pub(crate) fn put_note(out: &mut [u8], at: usize, note: &[u8]) -> usize
+fn put_note(out: &mut [u8], at: usize, note: &[u8]) -> usize
     requires { ⌜ at + 10 ≤ length (now out) ⌝ }
     ensures put { λ r. ⌜ Put (now (out .entry)) at (codes " " ++ (take 8 (now (note .entry)) ++ newline)) (now (out .exit)) r ⌝ }
     ensures bound { λ r. ⌜ r ≤ at + 10 ⌝ }
@@ -122,4 +124,20 @@ pub(crate) fn put_note(out: &mut [u8], at: usize, note: &[u8]) -> usize
     let shown = note.len().min(8);
     let end = put_bytes(out, space, &note[0..shown]);
     put_bytes(out, end, b"\n")
+}
+
+pub(crate) fn put_line(out: &mut [u8], number: u64, event: Event, result: Result<Answer, Refusal>) -> usize
+    requires { ⌜ 64 ≤ length (now out) ⌝ }
+    ensures { λ r. ⌜ Lined (now (out .entry)) (line-text number (contents (event .entry)) result) (now (out .exit)) r ⌝ }
+{
+    let head = put_head(out, number, event.letter().byte(), result);
+    put_note(out, head, event.note())
+}
+
+pub(crate) fn put_fault(out: &mut [u8], number: u64, why: Refusal) -> usize
+    requires { ⌜ 64 ≤ length (now out) ⌝ }
+    ensures { λ r. ⌜ Lined (now (out .entry)) (fault-text number why) (now (out .exit)) r ⌝ }
+{
+    let head = put_head(out, number, b'?', Err(why));
+    put_bytes(out, head, b"\n")
 }

@@ -6,6 +6,8 @@ ghost use Rattle.record.specs.Layout.{contents, saying};
 ghost use Rattle.record.specs.Writing.{writing, written};
 ghost use Rattle.record.specs.Laws.{Reads-back};
 use crate::event::Event;
+use crate::layout::NOTE;
+use crate::layout::RECORD;
 use crate::letter::Letter;
 use crate::reader::fault;
 use crate::reader::first_outside;
@@ -17,16 +19,16 @@ fn put(letter: Letter, place: u8, size: u16, value: u32, note: &[u8], out: &mut 
     ensures answer { λ r. ⌜ r ≡ writing (saying letter place size value (now (note .entry))) (now (out .entry)) ⌝ }
     ensures after { λ _. ⌜ now (out .exit) ≡ written (saying letter place size value (now (note .entry))) (now (out .entry)) ⌝ }
 {
-    if note.len() != 8 || first_outside(note, 8, 32, 126).is_some() {
-        return Err(fault(Refusal::NoteNotPrintable, 0, 8));
+    if note.len() != RECORD - NOTE || first_outside(note, NOTE, b' ', b'~').is_some() {
+        return Err(fault(Refusal::NoteNotPrintable, 0, NOTE));
     }
-    if out.len() < 16 {
+    if out.len() < RECORD {
         return Err(fault(Refusal::BufferTooShort, 0, 0));
     }
     let [l0, l1] = size.to_le_bytes();
     let [v0, v1, v2, v3] = value.to_le_bytes();
-    out[0..8].copy_from_slice(&[letter.byte(), place, l0, l1, v0, v1, v2, v3]);
-    out[8..16].copy_from_slice(note);
+    out[0..NOTE].copy_from_slice(&[letter.byte(), place, l0, l1, v0, v1, v2, v3]);
+    out[NOTE..RECORD].copy_from_slice(note);
     Ok(())
 }
 

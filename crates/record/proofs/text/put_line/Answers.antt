@@ -8,7 +8,7 @@ use Rattle.record.specs.Layout.{contents}
 use Rattle.record.specs.Lines.{head-text, line-text, newline}
 use Rattle.record.specs.Putting.{Put}
 use Rattle.record.proofs.Pasting.{at-front, chain}
-use Rattle.record.proofs.lines.line.Needs as need
+use Rattle.record.proofs.text.put_line.Needs as need
 
 pub returns : need.returns
 returns c =
@@ -16,5 +16,4 @@ returns c =
     let text : ℕ → List ℕ → List ℕ = λ l t. head-text (c .args .number) l (c .args .result) ++ (32 ∷ (take 8 t ++ newline)) in
     let same : text (c .byte .result) (c .note .result .now) ≡ line-text (c .args .number) (contents (c .args .event)) (c .args .result) = λ i. text (letter i) (c .note .ensures i) in
     let put = chain (c .put-head-head .ensures .put) (c .put-note .ensures .put) (omega arith) in
-    let f = at-front (subst (λ (l : List ℕ). Put (c .args .out .now) 0 l (c .put-note .last .out) (c .put-note .result)) same put) (omega arith) in
-    record { answer = f .0; after = f .1; short = omega arith }
+    at-front (subst (λ (l : List ℕ). Put (c .args .out .now) 0 l (c .put-note .last .out) (c .put-note .result)) same put) (omega arith)
