@@ -1,0 +1,5 @@
+pub mod Scan
+pub mod Numbers
+pub mod Parsing
+pub mod Trips
+pub mod Pasting
