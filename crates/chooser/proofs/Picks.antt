@@ -32,10 +32,10 @@ module _ {K : Type 0} {before : K → K → Bool} (order : Order before) (es : L
     offered = h .chosen;
     none-before = λ other t. h .none-before other (offered-inside es s other t) t;
     lowest = λ other t same.
-      ⊎-elim
-      (λ (lt : other < place). absurd (both-ways _ (order .irreflexive (key place)) (subst (λ (k : K). before (key place) k ≡ true) same (h .lowest other lt t))))
-      (λ (ge : place ≤ other). ge)
-      (cases-lt other place);
+        ⊎-elim
+        (λ (lt : other < place). absurd (both-ways _ (order .irreflexive (key place)) (subst (λ (k : K). before (key place) k ≡ true) same (h .lowest other lt t))))
+        (λ (ge : place ≤ other). ge)
+        (cases-lt other place);
   }
 
   offered-from : (r : Option ℕ) → Picks-first before key es r → Picks-offered es r

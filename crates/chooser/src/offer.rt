@@ -31,7 +31,9 @@ impl Offer {
             rate: 1,
             price: LINK,
         };
-        Offer { entries: [idle; 64] }
+        Offer {
+            entries: [idle; 64],
+        }
     }
 
     fn entry(&self, place: usize) -> Entry
