@@ -29,7 +29,7 @@ idle-is e off t =
     let price = eqb-true _ _ (q .1) in
     λ i. record { offered = off i; lag = lag i; rate = rate i; price = price i }
 
-price-bound : (rate price : ℕ) → rate * price ≡ 720720 → price ≤ 720720
+pub price-bound : (rate price : ℕ) → rate * price ≡ 720720 → price ≤ 720720
 price-bound zero price e = let z : _≡_ {A = ℕ} 0 720720 = sym (zero-mul price) ∙ e in absurd (omega arith)
 price-bound (suc r) price e =
     let one : 1 ≤ suc r = omega arith in

@@ -5,7 +5,7 @@ ghost use Prim.Native.Nat.{_<_};
 ghost use lib.Dec.{leb};
 ghost use lib.IntN.{natAbs};
 ghost use lib.ListN.{getD};
-ghost use Rattle.chooser.specs.Offers.{sound, idle, nobody, entry-at, with-offered, lag-bound};
+ghost use Rattle.chooser.specs.Offers.{sound, idle, nobody, entry-at, offered-at, with-offered, lag-bound};
 use super::entry::Entry;
 use tariff::LINK;
 use tariff::Rate;
@@ -25,14 +25,8 @@ impl Offer {
     pub fn none() -> Offer
         ensures { λ r. ⌜ r .entries ≡ nobody ⌝ }
     {
-        let idle = Entry {
-            offered: false,
-            lag: 0,
-            rate: 1,
-            price: LINK,
-        };
         Offer {
-            entries: [idle; 64],
+            entries: idle_entries(),
         }
     }
 
@@ -54,6 +48,16 @@ impl Offer {
         }
     }
 
+    // Whether a place is offered.
+    pub fn offers(&self, place: usize) -> bool
+        ensures { λ r. ⌜ r ≡ offered-at (now (self .entry) .entries) place ⌝ }
+    {
+        match self.at(place) {
+            Some(entry) => entry.offered,
+            None => false,
+        }
+    }
+
     // Offers a place. A place above 63 and a lag past the bound change nothing.
     pub fn put(&mut self, place: usize, lag: i64, rate: Rate)
         ensures { λ _. ⌜ now (self .exit) .entries ≡ with-offered (now (self .entry) .entries) place lag (rate .units) (rate .price) ⌝ }
@@ -67,6 +71,18 @@ impl Offer {
             };
         }
     }
+}
+
+fn idle_entries() -> [Entry; 64]
+    ensures { λ r. ⌜ r ≡ nobody ⌝ }
+{
+    let idle = Entry {
+        offered: false,
+        lag: 0,
+        rate: 1,
+        price: LINK,
+    };
+    [idle; 64]
 }
 
 // Whether a lag is one that an offer may have.
