@@ -1,0 +1,10 @@
+pub mod Tables
+pub mod Ledger
+pub mod Share
+pub mod Settle
+pub mod Departures
+pub mod Turn
+pub mod Turned
+pub mod Calm
+pub mod Cases
+pub mod Calls
