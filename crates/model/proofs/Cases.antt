@@ -10,17 +10,16 @@ use Rattle.std.specs.declared.option.Option.{Option}
 use Rattle.std.specs.declared.option.Option.the-variants.{None, Some}
 use Rattle.std.specs.declared.result.Result.the-variants.{Err}
 use Rattle.std.specs.shelf.Lists.{All}
-use Rattle.std.proofs.shelf.Tests.{both-ways, true≢false, not-false, or-parts, eqb-false, ltb-false, leb-false, eq-eqb, and-from}
+use Rattle.std.proofs.shelf.Tests.{not-false, or-parts, eqb-false, ltb-false, leb-false}
 use Rattle.answer.specs.declared.refusal.Refusal.{Refusal}
 use Rattle.tariff.specs.Tariff.{link, in-tariff}
 use Rattle.model.specs.Limits.{places, longest, most-waiting, most-turns}
 use Rattle.model.specs.Session.{Session}
-use Rattle.model.specs.Table.{Table, at, booked-total, none-active, is-none, due, least, first, chosen, chosen-at}
+use Rattle.model.specs.Table.{at, booked-total, none-active, chosen}
 use Rattle.model.specs.Meaning.{Meaning}
 use Rattle.model.specs.Cell.{Cell}
 use Rattle.model.specs.Calls.{Call, opening, closing, arrival, report, turn, first-of, refusal, refusals, found, Outcome, turn-of, accepted, outcome, step}
-use Rattle.model.proofs.Tables.{first-none}
-use Rattle.model.proofs.Share.{least-reached}
+use Rattle.model.proofs.Chosen.{chosen-some}
 
 -- no refusal: no condition of the list held
 passed : (cs : List (Bool × Refusal)) → first-of cs ≡ None → All (λ c. c .0 ≡ false) cs
@@ -30,21 +29,6 @@ passed (c ∷ cs) e = by (c .0) refl e (λ g. passed cs g)
     by : (b : Bool) → c .0 ≡ b → cond b (Some (c .1)) (first-of cs) ≡ None → (first-of cs ≡ None → All (λ c. c .0 ≡ false) cs) → (c .0 ≡ false) × All (λ c. c .0 ≡ false) cs
     by true f g ih = let z : _≡_ {A = ℕ} 0 1 = cc in absurd (omega arith)
     by false f g ih = (f, ih g)
-
--- somebody is chosen unless none is active
-pub chosen-some : (t : Table) → none-active t ≡ false → (c : ℕ) × (chosen t ≡ Some c)
-unfolding chosen
-chosen-some t e = by (least t) refl e
-  where
-    hit : (v : ℕ) → least t ≡ Some v → (o : Option ℕ) → first (due v) t ≡ o → (c : ℕ) × (o ≡ Some c)
-    hit v f (Some c) g = (c, refl)
-    hit v f None g =
-        let r = least-reached t v f in
-        absurd (both-ways (due v (at t (r .0))) (first-none (due v) t refl g (r .0)) (and-from (at t (r .0) .active) (eqb (at t (r .0) .virtual-time) v) (r .2) (eq-eqb (at t (r .0) .virtual-time) v (r .3))))
-
-    by : (o : Option ℕ) → least t ≡ o → is-none o ≡ false → (c : ℕ) × (chosen-at t o ≡ Some c)
-    by None f g = absurd (true≢false g)
-    by (Some v) f g = hit v f (first (due v) t) refl
 
 module _ {C : Type 0} (M : Meaning C) (x : Cell C) (size : length (x .table) ≡ places) (P : Call → Outcome M → Type 0)
     (refused : (call : Call) (why : Refusal) → P call (record { cell = x; answer = Err why }))

@@ -45,7 +45,7 @@ no-part : (l r c a : ℕ) → a ≡ 0 → l * (c + a) / r - l * c / r ≡ 0
 no-part l r c a e = ap (λ (a : ℕ). l * (c + a) / r - l * c / r) e ∙ ap (λ (k : ℕ). l * k / r - l * c / r) (add-zero c) ∙ sub-self (l * c / r)
 
 -- each place gets a part, and one that is not active gets None
-share-at : (l r c : ℕ) (t : Table) (j : ℕ) → (n : ℕ) × (at (share l r c t) j ≡ owed n (at t j)) × (at t j .active ≡ false → n ≡ 0)
+pub share-at : (l r c : ℕ) (t : Table) (j : ℕ) → (n : ℕ) × (at (share l r c t) j ≡ owed n (at t j)) × (at t j .active ≡ false → n ≡ 0)
 unfolding at share
 share-at l r c [] j = (0, refl, λ e. refl)
 share-at l r c (s ∷ t) zero = (l * (c + active-rate s) / r - l * c / r, refl, λ e. no-part l r c (active-rate s) (cond-false (s .active) (s .rate) 0 e))
@@ -57,7 +57,7 @@ total-share g h l r c [] = refl
 total-share g h l r c (s ∷ t) = omega (arith, h (l * (c + active-rate s) / r - l * c / r) s, total-share g h l r (c + active-rate s) t)
 
 -- the parts add up
-parts : (l r c e : ℕ) (t : Table) → c + total active-rate t ≡ e → totalℤ (λ s. s .lag) (share l r c t) ≡ totalℤ (λ s. s .lag) t +ℤ pos (l * e / r - l * c / r)
+pub parts : (l r c e : ℕ) (t : Table) → c + total active-rate t ≡ e → totalℤ (λ s. s .lag) (share l r c t) ≡ totalℤ (λ s. s .lag) t +ℤ pos (l * e / r - l * c / r)
 unfolding share total totalℤ
 parts l r c e [] h =
     let z : l * e / r - l * c / r ≡ 0 = ap (λ (k : ℕ). l * k / r - l * c / r) (sym h ∙ add-zero c) ∙ sub-self (l * c / r) in
@@ -90,7 +90,7 @@ departs s e =
     let q = and-parts (not (waiting s)) (not (leads s)) (p .1) in
     (p .0, not-true (waiting s) (q .0), not-true (leads s) (q .1))
 
-whole : (l r : ℕ) → (r ≡ 0 → l ≡ 0) → l * r / r - l * 0 / r ≡ l
+pub whole : (l r : ℕ) → (r ≡ 0 → l ≡ 0) → l * r / r - l * 0 / r ≡ l
 whole l zero h = sub-self (l * 0 / 0) ∙ sym (h refl)
 whole l (suc r) h =
     let a = mul-div-cancel l {n = suc r} (omega arith) in
@@ -312,6 +312,10 @@ stays-busy s e a = by (waiting s) (leads s) (sym (ap (λ (b : Bool). b && (not (
     by false true h = refl
     by false false h = absurd (true≢false h)
 
-pub departures-busy : (t : Table) (j : ℕ) → at (departures t) j .active ≡ true → (waiting (at (departures t) j) || leads (at (departures t) j)) ≡ true
+-- nobody is left that would depart
+pub departures-end : (t : Table) (j : ℕ) → departing (at (departures t) j) ≡ false
 unfolding departures
-departures-busy t j a = stays-busy (at (depart (active-count t) t) j) (first-none departing (depart (active-count t) t) refl (depart-ends (active-count t) t (le-refl (active-count t))) j) a
+departures-end t j = first-none departing (depart (active-count t) t) refl (depart-ends (active-count t) t (le-refl (active-count t))) j
+
+pub departures-busy : (t : Table) (j : ℕ) → at (departures t) j .active ≡ true → (waiting (at (departures t) j) || leads (at (departures t) j)) ≡ true
+departures-busy t j a = stays-busy (at (departures t) j) (departures-end t j) a

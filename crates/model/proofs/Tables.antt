@@ -11,6 +11,7 @@ use mathlib.Core.Logic.{_⊎_, inl, inr}
 use lib.IntN.{ℤ, pos, _+ℤ_}
 use borrow.Author.Differences.{ints}
 use lib.ListN.{length, getD, set}
+use Rattle.std.proofs.shelf.Tests.{cases-bool, both-ways, cond-true}
 use Rattle.model.specs.Session.{Session, vacant, with-active, waiting, leads}
 use Rattle.model.specs.Table.{Table, at, change, total, totalℤ, first, next, least, sooner}
 
@@ -104,6 +105,20 @@ first-found p (s ∷ t) k e = by (some-0 (p s) (first p t) k e) (λ j h. first-f
     by : ((p s ≡ true) × (0 ≡ k)) ⊎ ((j : ℕ) × (first p t ≡ Some j) × (suc j ≡ k)) → ((j : ℕ) → first p t ≡ Some j → (j < length t) × (p (at t j) ≡ true)) → (k < length (s ∷ t)) × (p (at (s ∷ t) k) ≡ true)
     by (inl h) ih = subst (λ (k : ℕ). (k < length (s ∷ t)) × (p (at (s ∷ t) k) ≡ true)) (h .1) (omega arith, h .0)
     by (inr h) ih = let r = ih (h .0) (h .1) in subst (λ (k : ℕ). (k < length (s ∷ t)) × (p (at (s ∷ t) k) ≡ true)) (h .2) (omega (arith, r .0), r .1)
+
+pub first-before : (p : Session → Bool) (t : Table) (k : ℕ) → first p t ≡ Some k → (j : ℕ) → j < k → p (at t j) ≡ false
+unfolding at first
+first-before p [] k e j l = let z : _≡_ {A = ℕ} 0 1 = cc in absurd (omega arith)
+first-before p (s ∷ t) k e j l = by (cases-bool (p s)) (λ i h j l. first-before p t i h j l) j l
+  where
+    by : (p s ≡ true) ⊎ (p s ≡ false) → ((i : ℕ) → first p t ≡ Some i → (j : ℕ) → j < i → p (at t j) ≡ false) → (j : ℕ) → j < k → p (at (s ∷ t) j) ≡ false
+    by (inl h) ih j l = let z : Some 0 ≡ Some k = sym (cond-true (p s) (Some 0) (next (first p t)) h) ∙ e in let y : 0 ≡ k = cc in absurd (omega arith)
+    by (inr h) ih zero l = h
+    by (inr h) ih (suc j) l = after (some-0 (p s) (first p t) k e)
+      where
+        after : ((p s ≡ true) × (0 ≡ k)) ⊎ ((i : ℕ) × (first p t ≡ Some i) × (suc i ≡ k)) → p (at t j) ≡ false
+        after (inl g) = absurd (both-ways (p s) h (g .0))
+        after (inr g) = ih (g .0) (g .1) j (omega (arith, g .2))
 
 pub first-none : (p : Session → Bool) (t : Table) → p vacant ≡ false → first p t ≡ None → (j : ℕ) → p (at t j) ≡ false
 unfolding at first

@@ -29,7 +29,8 @@ use Rattle.model.specs.Calls.{decide}
 use Rattle.model.specs.Sound.{Fits}
 use Rattle.model.proofs.Tables.{length-change, at-past, at-change, at-other, total-change, total-same, totalℤ-change, totalℤ-same, first-found, change-same, at-le-total, total-change-le}
 use Rattle.model.proofs.Ledger.{Row, Draft, Book, Ordered, excess, owing}
-use Rattle.model.proofs.Share.{active-booked, able-active, able-within}
+use Rattle.model.proofs.Share.{least-reached, active-booked, able-active, able-within}
+use Rattle.model.proofs.Chosen.{chosen-next}
 use Rattle.model.proofs.Departures.{owed-more}
 
 -- ---- who sends
@@ -129,30 +130,16 @@ decides M law x c f =
     (law (x .chooser) Extra (offer Extra (x .table)) (sound-offer x Extra f))
 
 -- the chosen session is active and at the mark
-chosen-from : (t : Table) (m c : ℕ) (o : Option ℕ) → o ≡ Some m → chosen-at t o ≡ Some c → (c < length t) × (due m (at t c) ≡ true)
-chosen-from t m c None e f = let z : _≡_ {A = ℕ} 0 1 = cc in absurd (omega arith)
-chosen-from t m c (Some n) e f = let q : n ≡ m = cc in subst (λ (m : ℕ). (c < length t) × (due m (at t c) ≡ true)) q (first-found (due n) t c f)
-
-no-least : (t : Table) (c : ℕ) (o : Option ℕ) → chosen-at t o ≡ Some c → (m : ℕ) × (o ≡ Some m)
-no-least t c None f = let z : _≡_ {A = ℕ} 0 1 = cc in absurd (omega arith)
-no-least t c (Some n) f = (n, refl)
-
 pub record Chosen (m : ℕ) (t : Table) (c : ℕ) : Type 0 where
   pub inside : c < length t
   pub active : at t c .active ≡ true
   pub level : at t c .virtual-time ≡ m
 
 pub chosen-is : (m : ℕ) (t : Table) (c : ℕ) → Book m t → chosen t ≡ Some c → Chosen m t c
-unfolding chosen
 chosen-is m t c b e =
-    let n = no-least t c (least t) e in
-    let f = chosen-from t (n .0) c (least t) (n .1) e in
-    let g = and-parts (at t c .active) (eqb (at t c .virtual-time) (n .0)) (f .1) in
-    let same : n .0 ≡ m = same-some (n .0) m (sym (n .1) ∙ b .lowest c (g .0)) in
-    record { inside = f .0; active = g .0; level = eqb-true (at t c .virtual-time) (n .0) (g .1) ∙ same }
-  where
-    same-some : (a b : ℕ) → Some a ≡ Some b → a ≡ b
-    same-some a b e = cc
+    let n = chosen-next t c e in
+    let k = least-reached t m (b .lowest c (n .active)) in
+    record { inside = n .inside; active = n .active; level = omega (arith, n .least (k .0) (k .2), k .3, b .draft .rows c .ahead (n .active)) }
 
 -- ---- what the chosen session and the sender become
 

@@ -22,6 +22,7 @@ use Rattle.model.specs.Table.{at, totalℤ, booked-total}
 use Rattle.model.specs.Meaning.{Meaning}
 use Rattle.model.specs.Cell.{Cell}
 use Rattle.model.specs.Calls.{Call, closing, turn, step}
+use Rattle.model.specs.Sound.{Sound}
 use Rattle.model.specs.History.{frame-of, taken-from, brought-to, after, sent, sent-by, Always, Throughout, Able}
 
 module _ {C : Type 0} (M : Meaning C) where
@@ -116,6 +117,10 @@ module _ {C : Type 0} (M : Meaning C) where
       (natAbs (at (x .table) i .lag) ≤ lag-bound) ×
       (length (at (x .table) i .queue) ≤ most-waiting)))
 
+  -- Its books stay in order.
+  abbrev pub Keeps-its-books : Type 0
+  Keeps-its-books = Throughout M (λ x. x .keep ≤ quarters → Sound x)
+
   pub record Promises : Type 0 where
     pub share : Gets-its-share
     pub idles : Idles-only-if-none-able
@@ -129,3 +134,4 @@ module _ {C : Type 0} (M : Meaning C) where
     pub mark : Mark-never-falls
     pub sheds : Closing-sheds-nothing
     pub within : Stays-within
+    pub books : Keeps-its-books
