@@ -1,0 +1,14 @@
+pub mod Limits
+pub mod Session
+pub mod Table
+pub mod Lists
+pub mod Meaning
+pub mod Turn
+pub mod Departures
+pub mod Cell
+pub mod Calls
+pub mod Laws
+pub mod Sound
+pub mod History
+pub mod Promises
+pub mod Figures
