@@ -1,5 +1,4 @@
 -- What a recording adds up to: its records by letter, and the bytes of the frames that it offers.
-use mathlib.Core.Path.{_≡_}
 use Prim.Native.Nat.{ℕ, _+_, _*_, _≤_}
 use Rattle.record.specs.Layout.{Contents}
 use Rattle.record.specs.declared.letter.Letter.{Letter}

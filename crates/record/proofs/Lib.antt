@@ -1,3 +1,4 @@
+pub mod Apart
 pub mod Scan
 pub mod Numbers
 pub mod Parsing

@@ -6,8 +6,7 @@ use native.Mathlib.Nat.{div-div-eq-div-mul, pow-suc}
 use native.Mathlib.Omega.{arith}
 use lib.ListN.{length, getD, take, drop}
 use Rattle.std.proofs.shelf.Lists.{drop-more}
-use Rattle.std.specs.shelf.Lists.{between}
-use Rattle.record.specs.Layout.{little, spread}
+use Rattle.record.specs.Layout.{little, spread, length-in, value-in}
 
 low-is : (b m : ℕ) → b < 256 → (b + 256 * m) % 256 ≡ b
 low-is b m h = omega arith
@@ -39,9 +38,9 @@ little-more : (bs : List ℕ) (i k : ℕ) → i < length bs → little (take (su
 little-more bs i k h = ap (λ (l : List ℕ). little (take (suc k) l)) (drop-more bs i 0 h)
 
 module _ (bs : List ℕ) (long : 8 ≤ length bs) where
-  pub length-is : little (between 2 4 bs) ≡ getD bs 2 0 + getD bs 3 0 * 256
+  pub length-is : length-in bs ≡ getD bs 2 0 + getD bs 3 0 * 256
   length-is = omega (arith, little-more bs 2 1 (omega arith), little-more bs 3 0 (omega arith))
 
-  pub value-is : little (between 4 8 bs) ≡ getD bs 4 0 + getD bs 5 0 * 256 + getD bs 6 0 * 65536 + getD bs 7 0 * 16777216
+  pub value-is : value-in bs ≡ getD bs 4 0 + getD bs 5 0 * 256 + getD bs 6 0 * 65536 + getD bs 7 0 * 16777216
   value-is =
       omega (arith, little-more bs 4 3 (omega arith), little-more bs 5 2 (omega arith), little-more bs 6 1 (omega arith), little-more bs 7 0 (omega arith))

@@ -1,7 +1,7 @@
 -- One write after another into a buffer.
-use mathlib.Core.Path.{_≡_, refl, sym, ap, subst, _∙_}
+use mathlib.Core.Path.{_≡_, sym, ap, subst, _∙_}
 use mathlib.Core.List.{List, [], _∷_, _++_, append-assoc}
-use Prim.Native.Nat.{ℕ, min, _+_, _-_, _^_, _/_, _%_, _≤_, _<_}
+use Prim.Native.Nat.{ℕ, min, _+_, _^_, _/_, _%_, _≤_, _<_}
 use native.Mathlib.Nat.{add-assoc, zero-add}
 use native.Mathlib.Omega.{arith}
 use lib.ListN.{length, take, drop, length-append}
@@ -51,6 +51,10 @@ digit-length n h = ap length (decimal-digit n h)
 pub step-length : (n : ℕ) → 10 ≤ n → n < 2 ^ 64 → length (decimal n) ≡ length (decimal (n / 10)) + 1
 step-length n h k = ap length (decimal-step n h k) ∙ length-append (decimal (n / 10)) ((48 + n % 10) ∷ [])
 
+-- what was put, in other words
+pub retext : {out now a b : List ℕ} {at r : ℕ} → a ≡ b → Put out at a now r → Put out at b now r
+retext {out} {now} {a} {b} {at} {r} e p = subst (λ (l : List ℕ). Put out at l now r) e p
+
 -- two writes one after the other, where the second ends within the buffer
 pub chain : {out one two a b : List ℕ} {at n m : ℕ} → Put out at a one n → Put one n b two m → m ≤ length out → Put out at (a ++ b) two m
 chain {out} {one} {two} {a} {b} {at} {n} {m} p q room =
@@ -73,8 +77,8 @@ decimal64 n h = length-decimal-le 20 n (omega arith) (omega arith) (omega arith)
 pub shown-is : (xs : List ℕ) (k : ℕ) → k ≡ min (length xs) 8 → take k xs ≡ take 8 xs
 shown-is xs k e =
     elim (cases-lt (length xs) 8) [
-      inl h ↦ (let few : length xs ≤ k = omega arith in take-all k xs few ∙ sym (take-all 8 xs (omega arith)))
-    | inr h ↦ (let eight : k ≡ 8 = omega arith in ap (λ (n : ℕ). take n xs) eight)
+      | inl h ↦ (let few : length xs ≤ k = omega arith in take-all k xs few ∙ sym (take-all 8 xs (omega arith)))
+      | inr h ↦ (let eight : k ≡ 8 = omega arith in ap (λ (n : ℕ). take n xs) eight)
     ]
 
 -- a line that was put at the front of a buffer

@@ -65,10 +65,22 @@ abbrev pub spread : ℕ → ℕ → List ℕ
 spread zero n = []
 spread (suc k) n = n % 256 ∷ spread k (n / 256)
 
--- what the bytes of a record say, with a letter that is known
+-- the parts of sixteen bytes
+abbrev pub place-in : List ℕ → ℕ
+place-in bytes = getD bytes place-at 0
+
+abbrev pub length-in : List ℕ → ℕ
+length-in bytes = little (between length-at value-at bytes)
+
+abbrev pub value-in : List ℕ → ℕ
+value-in bytes = little (between value-at note-at bytes)
+
+abbrev pub note-in : List ℕ → List ℕ
+note-in bytes = between note-at record-end bytes
+
+-- what they say, under a letter
 abbrev pub decoded : Letter → List ℕ → Contents
-decoded l bytes =
-    saying l (getD bytes place-at 0) (little (between length-at value-at bytes)) (little (between value-at note-at bytes)) (between note-at record-end bytes)
+decoded l bytes = saying l (place-in bytes) (length-in bytes) (value-in bytes) (note-in bytes)
 
 -- the bytes that say it
 abbrev pub encoded : Contents → List ℕ

@@ -38,7 +38,8 @@ sent-text (Some s) = decimal (s .sender) ++ (codes "/" ++ decimal (s .tag))
 -- chosen/sender/tag/length/kind
 abbrev pub turn-text : Turn → List ℕ
 turn-text t =
-    decimal (t .chosen) ++ (codes "/" ++ (sent-text (t .sent) ++ (codes "/" ++ (decimal (t .length) ++ (codes "/" ++ (kind-byte (t .kind) ∷ []))))))
+    decimal (t .chosen) ++ (codes "/" ++ (sent-text (t .sent) ++ (codes "/"
+    ++ (decimal (t .length) ++ (codes "/" ++ (kind-byte (t .kind) ∷ []))))))
 
 abbrev pub refusal-text : Refusal → List ℕ
 refusal-text why = codes "E" ++ decimal (number-of why)

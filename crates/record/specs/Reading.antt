@@ -18,7 +18,7 @@ use Rattle.answer.specs.declared.refusal.Refusal.the-variants.{TruncatedRecord,
 use Rattle.record.specs.declared.event.Event.{Event}
 use Rattle.record.specs.declared.letter.Letter.{Letter}
 use Rattle.record.specs.Letters.{code, letter-of}
-use Rattle.record.specs.Layout.{Contents, contents, decoded, unused, note-at, record-end}
+use Rattle.record.specs.Layout.{Contents, contents, decoded, unused, note-at, note-in, record-end}
 
 abbrev pub fault : Refusal → ℕ → ℕ → Fault
 fault why number byte = record { refusal = why; layer = Record; «record» = number; byte = byte }
@@ -28,9 +28,9 @@ abbrev pub first-outside : ℕ → ℕ → ℕ → List ℕ → Option ℕ
 first-outside low high i [] = None
 first-outside low high i (b ∷ bs) = cond (ltb b low || ltb high b) (Some i) (first-outside low high (i + 1) bs)
 
--- the first byte of a part that is unused and not zero
-abbrev pub first-used : ℕ × ℕ → List ℕ → Option ℕ
-first-used part bytes = first-outside 0 0 (part .0) (between (part .0) (part .1) bytes)
+-- the first byte of an unused part that is not zero
+abbrev pub first-not-zero : ℕ × ℕ → List ℕ → Option ℕ
+first-not-zero part bytes = first-outside 0 0 (part .0) (between (part .0) (part .1) bytes)
 
 -- the first byte of a note that is not printable
 abbrev pub first-unprintable : List ℕ → Option ℕ
@@ -44,8 +44,8 @@ unless (Some byte) why number r = Err (fault why number byte)
 abbrev pub parsed-as : ℕ → List ℕ → Option Letter → Result Contents Fault
 parsed-as number bytes None = Err (fault UnknownLetter number 0)
 parsed-as number bytes (Some l) =
-    unless (first-used (unused l) bytes) UnusedByteNotZero number
-    (unless (first-unprintable (between note-at record-end bytes)) NoteNotPrintable number (Ok (decoded l bytes)))
+    unless (first-not-zero (unused l) bytes) UnusedByteNotZero number
+    (unless (first-unprintable (note-in bytes)) NoteNotPrintable number (Ok (decoded l bytes)))
 
 -- what sixteen bytes say
 abbrev pub parsed : ℕ → List ℕ → Result Contents Fault

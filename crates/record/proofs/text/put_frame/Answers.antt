@@ -1,10 +1,7 @@
-use mathlib.Core.Path.{_≡_, ap, sym, subst, _∙_}
-use Prim.Native.Nat.{ℕ, _+_, _-_, _^_, _<_, _≤_}
-use mathlib.Core.List.{List, [], _∷_, _++_}
+use Prim.Native.Nat.{_≤_}
 use native.Mathlib.Omega.{arith}
-use lib.ListN.{length, length-append}
+use lib.ListN.{length}
 use Rattle.std.specs.Written.{decimal}
-use Rattle.record.specs.Putting.{Put}
 use Rattle.record.proofs.Pasting.{chain, decimal8, decimal32}
 use Rattle.record.proofs.text.put_frame.Needs as need
 

@@ -1,12 +1,12 @@
-use mathlib.Core.Path.{_≡_, ap, sym, subst, _∙_}
-use Prim.Native.Nat.{ℕ, _+_, _-_, _^_, _<_, _≤_}
+use mathlib.Core.Path.{ap}
+use Prim.Native.Nat.{ℕ, _≤_}
 use mathlib.Core.List.{List, [], _∷_, _++_}
 use native.Mathlib.Omega.{arith}
-use lib.ListN.{length, length-append}
+use lib.ListN.{length}
 use Rattle.std.specs.Written.{decimal}
-use Rattle.record.specs.Putting.{Put}
+use Rattle.answer.specs.declared.turn.Turn.{Turn}
 use Rattle.record.specs.Lines.{kind-byte, sent-text}
-use Rattle.record.proofs.Pasting.{chain, decimal8, decimal16}
+use Rattle.record.proofs.Pasting.{chain, retext, decimal8, decimal16}
 use Rattle.record.proofs.text.put_turn.Needs as need
 
 pub put-decimal-chosen-requires : need.put-decimal-chosen-requires
@@ -31,14 +31,15 @@ pub returns : need.returns
 returns c =
     let a : length (decimal (c .args .turn .chosen)) ≤ 3 = decimal8 (c .args .turn .chosen) (omega arith) in
     let b : length (decimal (c .args .turn .length)) ≤ 5 = decimal16 (c .args .turn .length) (omega arith) in
-    let text : ℕ → List ℕ = λ k. decimal (c .args .turn .chosen) ++ (47 ∷ (sent-text (c .args .turn .sent) ++ (47 ∷ (decimal (c .args .turn .length) ++ (47 ∷ k ∷ []))))) in
+    let t : Turn = c .args .turn in
+    let text : ℕ → List ℕ = λ k. decimal (t .chosen) ++ (47 ∷ (sent-text (t .sent) ++ (47 ∷ (decimal (t .length) ++ (47 ∷ k ∷ []))))) in
     record {
       put =
-        subst (λ (k : ℕ). Put (c .args .out .now) (c .args .at) (text k) (c .put-bytes .last .out) (c .put-bytes .result)) (c .kind-byte .ensures)
-        (chain (c .put-decimal-chosen .ensures)
-        (chain (c .put-bytes-first .ensures)
-        (chain (c .put-sent-sent .ensures .put)
-        (chain (c .put-bytes-second .ensures)
-        (chain (c .put-decimal-size .ensures) (c .put-bytes .ensures) (omega arith)) (omega arith)) (omega arith)) (omega arith)) (omega arith));
+          retext (ap text (c .kind-byte .ensures))
+          (chain (c .put-decimal-chosen .ensures)
+          (chain (c .put-bytes-first .ensures)
+          (chain (c .put-sent-sent .ensures .put)
+          (chain (c .put-bytes-second .ensures)
+          (chain (c .put-decimal-size .ensures) (c .put-bytes .ensures) (omega arith)) (omega arith)) (omega arith)) (omega arith)) (omega arith));
       bound = omega arith;
     }
