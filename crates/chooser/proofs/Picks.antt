@@ -5,14 +5,16 @@ use mathlib.Core.Bool.{Bool, true, false}
 use mathlib.Core.List.{List}
 use Prim.Native.Nat.{ℕ, _≤_, _<_}
 use native.Mathlib.Omega.{arith}
+use lib.Dec.{ltb}
+use lib.ListN.{getD}
 use Rattle.std.specs.declared.option.Option.{Option}
 use Rattle.std.specs.declared.option.Option.the-variants.{Some, None}
-use Rattle.std.proofs.shelf.Tests.{both-ways, cases-lt}
+use Rattle.std.proofs.shelf.Tests.{both-ways, cases-lt, cond-true, lt-ltb}
 use Rattle.keys.specs.Order.{Order}
 use Rattle.keys.specs.Places.{First}
 use Rattle.keys.proofs.Places.{first-place-is-first}
 use Rattle.chooser.specs.declared.entry.Entry.{Entry}
-use Rattle.chooser.specs.Offers.{offered-at, sound, Picks-offered}
+use Rattle.chooser.specs.Offers.{idle, entry-at, offered-at, sound, Picks-offered}
 use Rattle.chooser.specs.Picks.{first-by, First-offered, Picks-first}
 use Rattle.chooser.proofs.Sound.{nobody-past}
 
@@ -22,8 +24,12 @@ offered-inside es s place t =
     ⊎-elim (λ (lt : place < 64). lt) (λ (ge : 64 ≤ place). absurd (both-ways _ (nobody-past es s place ge) t)) (cases-lt place 64)
 
 -- and so is a picked one
-pub picked-inside : (es : List Entry) → sound es ≡ true → (r : Option ℕ) → Picks-offered es r → (place : ℕ) → r ≡ Some place → place < 64
-picked-inside es s r h place e = offered-inside es s place (subst (Picks-offered es) e h)
+pub picked-inside : (es : List Entry) → sound es ≡ true → (r : Option ℕ) → Picks-offered es r → (place : ℕ) → Some place ≡ r → place < 64
+picked-inside es s r h place e = offered-inside es s place (subst (Picks-offered es) (sym e) h)
+
+-- so that its entry is always there
+pub picked-entry : (es : List Entry) → sound es ≡ true → (place : ℕ) → Picks-offered es (Some place) → (r : Option Entry) → r ≡ entry-at es place → r ≡ Some (getD es place idle)
+picked-entry es s place t r is = is ∙ cond-true (ltb place 64) (Some (getD es place idle)) None (lt-ltb place 64 (offered-inside es s place t))
 
 module _ {K : Type 0} {before : K → K → Bool} (order : Order before) (es : List Entry) (s : sound es ≡ true) (key : ℕ → K) where
   picks-first-from : (r : Option ℕ) → First before 64 (offered-at es) key r → Picks-first before key es r

@@ -1,5 +1,5 @@
 -- The pick has been served least.
-use mathlib.Core.Path.{_≡_, ap, sym}
+use mathlib.Core.Path.{_≡_, ap}
 use mathlib.Core.Bool.{true, false}
 use mathlib.Core.List.{List}
 use Prim.Native.Nat.{ℕ, _<_}
@@ -32,4 +32,4 @@ module _ (c : LeastServed) (line : Line) (es : List Entry) (s : sound es ≡ tru
   least-is-offered = picks-offered count-order es s (count-key c line)
 
   pub least-inside : (place : ℕ) → Some place ≡ least-served c line es → place < 64
-  least-inside place is = picked-inside es s (least-served c line es) least-is-offered place (sym is)
+  least-inside = picked-inside es s (least-served c line es) least-is-offered
