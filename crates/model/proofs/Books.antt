@@ -25,7 +25,7 @@ use Rattle.model.proofs.Tables.{at-past}
 use Rattle.model.proofs.Ledger.{Row, Draft, Book, Ordered, owing}
 use Rattle.model.proofs.Share.{least-reached}
 use Rattle.model.proofs.Settle.{least-some}
-use Rattle.model.proofs.Turn.{lag-within}
+use Rattle.model.proofs.Senders.{lag-within}
 use Rattle.model.proofs.Calm.{vacant-row}
 use Rattle.model.proofs.Calls.{step-good}
 use Rattle.model.proofs.Bounds.{Low, Within, step-within}
@@ -164,8 +164,4 @@ step-sound M law x call b =
 
 -- no lag is further from zero than what all lagging sessions together are owed
 pub lag-low : {C : Type 0} (x : Cell C) (i : ℕ) → Ordered x → natAbs (at (x .table) i .lag) ≤ longest * x .turns
-lag-low x i s = by (cases-lt i (length (x .table)))
-  where
-    by : (i < length (x .table)) ⊎ (length (x .table) ≤ i) → natAbs (at (x .table) i .lag) ≤ longest * x .turns
-    by (inl h) = le-trans (lag-within (x .mark) (x .table) i (s .book .draft) h) (s .owing)
-    by (inr h) = omega (arith, ap (λ (s : Session). natAbs (s .lag)) (at-past (x .table) i h))
+lag-low x i s = le-trans (lag-within (x .table) i (s .book .draft .balance)) (s .owing)

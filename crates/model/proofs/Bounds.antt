@@ -25,7 +25,8 @@ use Rattle.model.proofs.Tables.{each-change}
 use Rattle.model.proofs.Ledger.{Row, Ordered}
 use Rattle.model.proofs.Share.{least-reached, active-booked}
 use Rattle.model.proofs.Departures.{depart-same}
-use Rattle.model.proofs.Turn.{decides, chosen-is, way-fits}
+use Rattle.model.proofs.Senders.{decides, chosen-is}
+use Rattle.model.proofs.Turn.{way-fits}
 use Rattle.model.proofs.Cases.{each-case}
 
 -- a place, after turns that could bring b

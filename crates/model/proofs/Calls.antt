@@ -28,7 +28,8 @@ use Rattle.model.specs.Calls.{Call, opening, closing, arrival, report, turn, a
 use Rattle.model.specs.History.{sent-frame, sent-from, taken, taken-from, bytes}
 use Rattle.model.proofs.Tables.{total-change, total-same}
 use Rattle.model.proofs.Ledger.{Ordered, Move, excess, owing}
-use Rattle.model.proofs.Turn.{Rightly, decides, Chosen, chosen-is, way-fits, Part, named}
+use Rattle.model.proofs.Senders.{Rightly, decides, Chosen, chosen-is}
+use Rattle.model.proofs.Turn.{way-fits, Part, named}
 use Rattle.model.proofs.Turned.{turn-book, turn-owes, turn-rises, turn-pays, turn-part, turn-price}
 use Rattle.model.proofs.Calm.{Calm, open-calm, close-calm, arrive-calm, report-calm, calm-book, calm-rises, calm-pays, calm-kept}
 use Rattle.model.proofs.Cases.{each-case}

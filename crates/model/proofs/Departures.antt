@@ -14,11 +14,13 @@ use lib.IntN.{ℤ, pos, negsuc, _+ℤ_}
 use lib.Signed.{_≤ℤ_, ltZ}
 use borrow.Author.Differences.{ints}
 use Rattle.std.proofs.shelf.Tests.{cases-bool, both-ways, true≢false, false≢true, and-parts, and-from, not-true, not-from-false, or-left, or-right, cond-true, cond-false}
+use Rattle.tariff.specs.Tariff.{link}
 use Rattle.model.specs.Session.{Session, vacant, waiting, leads, above-zero}
 use Rattle.model.specs.Table.{active-count, Table, at, change, total, totalℤ, first, one-if}
 use Rattle.model.specs.Turn.{owed}
 use Rattle.model.specs.Departures.{departing, gone, active-rate, share, departed, depart, departures}
-use Rattle.model.proofs.Tables.{length-change, at-change, at-other, total-change, total-same, totalℤ-change, totalℤ-none, total-zero, first-found, first-none, first-never}
+use Rattle.model.specs.Sound.{Midway}
+use Rattle.model.proofs.Tables.{length-change, at-other, total-change, total-same, totalℤ-change, totalℤ-none, total-zero, first-found, first-none, first-never, each-change, change-same}
 use Rattle.model.proofs.Ledger.{Row, Draft, owing}
 use Rattle.model.proofs.Share.{active-booked}
 
@@ -101,14 +103,32 @@ not-more : (l r : ℕ) → l * r / r - l * 0 / r ≤ l
 not-more l zero = omega (arith, sub-self (l * 0 / 0))
 not-more l (suc r) = omega (arith, mul-div-cancel l {n = suc r} (omega arith))
 
+-- the table without the one that departs, what it was owed, and the rates that share it
+abbrev less : Table → ℕ → Table
+less t k = change t k gone
+
+abbrev lost : Table → ℕ → ℕ
+lost t k = above-zero (at t k .lag)
+
+abbrev rates-left : Table → ℕ → ℕ
+rates-left t k = total active-rate (less t k)
+
+still : (z : ℤ) (n : ℕ) → z ≡ pos 0 → n ≡ 0 → z +ℤ pos n ≡ pos 0
+still z n a b = omega (arith, ints)
+
 row-owed : (m n : ℕ) (s : Session) → Row m s → (s .active ≡ false → n ≡ 0) → Row m (owed n s)
-row-owed m n s r h = record { priced = r .priced; bare = λ b. none (r .bare b); near = r .near; ahead = r .ahead; quiet = λ e. (still (r .quiet e .0) (h e), r .quiet e .1); frames = r .frames; room = r .room }
+row-owed m n s r h = record {
+  priced = r .priced;
+  bare = λ b. none (r .bare b);
+  near = r .near;
+  ahead = r .ahead;
+  quiet = λ e. (still (s .lag) n (r .quiet e .0) (h e), r .quiet e .1);
+  frames = r .frames;
+  room = r .room;
+}
   where
     none : s ≡ vacant → owed n s ≡ vacant
     none e = ap₂ owed (h (ap (λ (s : Session). s .active) e)) e
-
-    still : s .lag ≡ pos 0 → n ≡ 0 → s .lag +ℤ pos n ≡ pos 0
-    still a b = omega (arith, ints)
 
 row-gone : (m : ℕ) (s : Session) → Row m s → s .active ≡ true → waiting s ≡ false → Row m (gone s)
 row-gone m s r a w = record {
@@ -125,63 +145,97 @@ above-is : (z : ℤ) → ltZ z (pos 0) ≡ false → z ≡ pos (above-zero z)
 above-is (pos n) e = refl
 above-is (negsuc n) e = absurd (true≢false e)
 
-rate-counts : (m : ℕ) (s : Session) → Row m s → active-rate s ≡ 0 → s .active ≡ false
-rate-counts m s r e = by (cases-bool (s .active))
+-- who shares by rate 0 is not active
+rate-counts : (s : Session) → (s .active ≡ true → 0 < s .rate) → active-rate s ≡ 0 → s .active ≡ false
+rate-counts s r e = by (cases-bool (s .active))
   where
     by : (s .active ≡ true) ⊎ (s .active ≡ false) → s .active ≡ false
     by (inr h) = h
-    by (inl h) =
-        let p = r .priced (active-booked m s r h) in
-        let z : s .rate ≡ 0 = sym (cond-true (s .active) (s .rate) 0 h) ∙ e in
-        let q = ap (λ (k : ℕ). k * s .price) z in
-        absurd (omega arith)
+    by (inl h) = absurd (omega (arith, r h, cond-true (s .active) (s .rate) 0 h))
+
+-- an active session has booked a rate
+rate-some : (m : ℕ) (s : Session) → Row m s → s .active ≡ true → 0 < s .rate
+rate-some m s r a = by (s .rate) (r .priced (active-booked m s r a))
+  where
+    by : (k : ℕ) → k * s .price ≡ link → 0 < k
+    by zero e = absurd (omega arith)
+    by (suc k) e = omega arith
+
+pub midway-of : (m most : ℕ) (t : Table) → Draft m t → owing t ≤ most → Midway most t
+midway-of m most t d o = record {
+  size = d .size;
+  rates = d .rates;
+  balance = d .balance;
+  owing = o;
+  quiet = λ j a. d .rows j .quiet a .0;
+  counted = λ j. rate-some m (at t j) (d .rows j);
+}
 
 -- a session that has no frame and does not lead departs
-module _ (m : ℕ) (t : Table) (k : ℕ) (inside : k < length t) (goes : departing (at t k) ≡ true) where
-  less : Table
-  less = change t k gone
-
-  -- rows once it is gone
-  rows-less : Draft m t → (j : ℕ) → Row m (at less j)
-  unfolding less
-  rows-less d j = by (ℕ-discrete k j)
-    where
-      by : Dec (k ≡ j) → Row m (at (change t k gone) j)
-      by (yes e) = subst (λ (j : ℕ). Row m (at (change t k gone) j)) e (subst (Row m) (sym (at-change t k gone inside)) (row-gone m (at t k) (d .rows k) (departs (at t k) goes .0) (departs (at t k) goes .1)))
-      by (no n) = subst (Row m) (sym (at-other t k j gone n)) (d .rows j)
-
-  lag-less : Draft m t → totalℤ (λ s. s .lag) less +ℤ pos (above-zero (at t k .lag)) ≡ pos 0
-  unfolding less
-  lag-less d =
+module _ (t : Table) (k : ℕ) (inside : k < length t) (goes : departing (at t k) ≡ true) where
+  lag-less : totalℤ (λ s. s .lag) t ≡ pos 0 → totalℤ (λ s. s .lag) (less t k) +ℤ pos (lost t k) ≡ pos 0
+  lag-less c =
       let a = totalℤ-change (λ s. s .lag) t k gone inside in
       let b = above-is (at t k .lag) (departs (at t k) goes .2) in
-      let c = d .balance in
       omega (arith, ints)
 
-  nobody-left : Draft m t → total active-rate less ≡ 0 → above-zero (at t k .lag) ≡ 0
-  nobody-left d e =
-      let z = totalℤ-none (λ s. s .lag) less (λ j. rows-less d j .quiet (rate-counts m (at less j) (rows-less d j) (total-zero active-rate less e refl j)) .0) in
-      let a = lag-less d in
-      omega (arith, ints)
+  -- no more is owed than before
+  departed-owes : owing (departed t (Some k)) ≤ owing t
+  unfolding departed
+  departed-owes =
+      let a = parts-owed (lost t k) (rates-left t k) 0 (rates-left t k) (less t k) (zero-add (rates-left t k)) in
+      let b = total-change (λ s. above-zero (s .lag)) t k gone inside in
+      let c = not-more (lost t k) (rates-left t k) in
+      omega arith
 
-  departed-draft : Draft m t → Draft m (departed t (Some k))
-  unfolding departed less
-  departed-draft d = record {
-    size = length-share (above-zero (at t k .lag)) (total active-rate (change t k gone)) 0 (change t k gone) ∙ length-change t k gone ∙ d .size;
-    rows = λ j. let r = share-at (above-zero (at t k .lag)) (total active-rate (change t k gone)) 0 (change t k gone) j in subst (Row m) (sym (r .1)) (row-owed m (r .0) (at (change t k gone) j) (rows-less d j) (r .2));
-    rates = omega (arith, total-share (λ s. s .rate) (λ n s. refl) (above-zero (at t k .lag)) (total active-rate (change t k gone)) 0 (change t k gone), total-same (λ s. s .rate) t k gone refl, d .rates);
-    balance =
-        let a = parts (above-zero (at t k .lag)) (total active-rate (change t k gone)) 0 (total active-rate (change t k gone)) (change t k gone) (zero-add (total active-rate (change t k gone))) in
-        let b = whole (above-zero (at t k .lag)) (total active-rate (change t k gone)) (nobody-left d) in
-        let c = lag-less d in
-        a ∙ ap (λ (n : ℕ). totalℤ (λ s. s .lag) (change t k gone) +ℤ pos n) b ∙ c;
-  }
+  module _ (most : ℕ) (d : Midway most t) where
+    quiet-less : (j : ℕ) → at (less t k) j .active ≡ false → at (less t k) j .lag ≡ pos 0
+    quiet-less = each-change (λ s. s .active ≡ false → s .lag ≡ pos 0) t k gone (d .quiet) (λ _. refl)
+
+    counted-less : (j : ℕ) → at (less t k) j .active ≡ true → 0 < at (less t k) j .rate
+    counted-less = each-change (λ s. s .active ≡ true → 0 < s .rate) t k gone (d .counted) (λ e. absurd (false≢true e))
+
+    -- with nobody left to share it, nothing was owed
+    nobody-left : rates-left t k ≡ 0 → lost t k ≡ 0
+    nobody-left e =
+        let z = totalℤ-none (λ s. s .lag) (less t k) (λ j. quiet-less j (rate-counts (at (less t k) j) (counted-less j) (total-zero active-rate (less t k) e refl j))) in
+        let a = lag-less (d .balance) in
+        omega (arith, ints)
+
+    departed-midway : Midway most (departed t (Some k))
+    unfolding departed
+    departed-midway = record {
+      size = length-share (lost t k) (rates-left t k) 0 (less t k) ∙ length-change t k gone ∙ d .size;
+      rates = omega (arith, total-share (λ s. s .rate) (λ n s. refl) (lost t k) (rates-left t k) 0 (less t k), total-same (λ s. s .rate) t k gone refl, d .rates);
+      balance =
+          parts (lost t k) (rates-left t k) 0 (rates-left t k) (less t k) (zero-add (rates-left t k))
+          ∙ ap (λ (n : ℕ). totalℤ (λ s. s .lag) (less t k) +ℤ pos n) (whole (lost t k) (rates-left t k) nobody-left)
+          ∙ lag-less (d .balance);
+      owing = le-trans departed-owes (d .owing);
+      quiet = λ j. let r = given j in subst (λ (s : Session). s .active ≡ false → s .lag ≡ pos 0) (sym (r .1)) (λ a. still (at (less t k) j .lag) (r .0) (quiet-less j a) (r .2 a));
+      counted = λ j. let r = given j in subst (λ (s : Session). s .active ≡ true → 0 < s .rate) (sym (r .1)) (counted-less j);
+    }
+      where
+        given : (j : ℕ) → (n : ℕ) × (at (share (lost t k) (rates-left t k) 0 (less t k)) j ≡ owed n (at (less t k) j)) × (at (less t k) j .active ≡ false → n ≡ 0)
+        given j = share-at (lost t k) (rates-left t k) 0 (less t k) j
+
+  departed-draft : (m : ℕ) → Draft m t → Draft m (departed t (Some k))
+  unfolding departed
+  departed-draft m d =
+      let w = departed-midway (owing t) (midway-of m (owing t) t d (le-refl (owing t))) in
+      let rows = each-change (Row m) t k gone (d .rows) (row-gone m (at t k) (d .rows k) (departs (at t k) goes .0) (departs (at t k) goes .1)) in
+      record {
+        size = w .size;
+        rows = λ j. let r = share-at (lost t k) (rates-left t k) 0 (less t k) j in subst (Row m) (sym (r .1)) (row-owed m (r .0) (at (less t k) j) (rows j) (r .2));
+        rates = w .rates;
+        balance = w .balance;
+      }
 
   -- one active session less
   departed-count : active-count (departed t (Some k)) + 1 ≡ active-count t
   unfolding departed
   departed-count =
-      let a = total-share (λ s. one-if (s .active)) (λ n s. refl) (above-zero (at t k .lag)) (total active-rate (change t k gone)) 0 (change t k gone) in
+      let a = total-share (λ s. one-if (s .active)) (λ n s. refl) (lost t k) (rates-left t k) 0 (less t k) in
       let b = total-change (λ s. one-if (s .active)) t k gone inside in
       let c : one-if (at t k .active) ≡ 1 = ap one-if (departs (at t k) goes .0) in
       omega arith
@@ -190,39 +244,33 @@ module _ (m : ℕ) (t : Table) (k : ℕ) (inside : k < length t) (goes : departi
   departed-waits : (j : ℕ) → waiting (at t j) ≡ true → (n : ℕ) × (at (departed t (Some k)) j ≡ owed n (at t j))
   unfolding departed
   departed-waits j w =
-      let r = share-at (above-zero (at t k .lag)) (total active-rate (change t k gone)) 0 (change t k gone) j in
+      let r = share-at (lost t k) (rates-left t k) 0 (less t k) j in
       (r .0, r .1 ∙ ap (owed (r .0)) (at-other t k j gone (λ e. both-ways (waiting (at t j)) (subst (λ (j : ℕ). waiting (at t j) ≡ false) e (departs (at t k) goes .1)) w)))
 
   -- what does not read lag or status
   departed-same : {X : Type 0} (g : Session → X) → ((n : ℕ) (s : Session) → g (owed n s) ≡ g s) → ((s : Session) → g (gone s) ≡ g s) → (j : ℕ) → g (at (departed t (Some k)) j) ≡ g (at t j)
   unfolding departed
   departed-same g h l j =
-      let r = share-at (above-zero (at t k .lag)) (total active-rate (change t k gone)) 0 (change t k gone) j in
-      ap g (r .1) ∙ h (r .0) (at (change t k gone) j) ∙ by (ℕ-discrete k j)
-    where
-      by : Dec (k ≡ j) → g (at (change t k gone) j) ≡ g (at t j)
-      by (yes e) = subst (λ (j : ℕ). g (at (change t k gone) j) ≡ g (at t j)) e (ap g (at-change t k gone inside) ∙ l (at t k))
-      by (no n) = ap g (at-other t k j gone n)
-
-  -- no more is owed than before
-  departed-owes : owing (departed t (Some k)) ≤ owing t
-  unfolding departed
-  departed-owes =
-      let a = parts-owed (above-zero (at t k .lag)) (total active-rate (change t k gone)) 0 (total active-rate (change t k gone)) (change t k gone) (zero-add (total active-rate (change t k gone))) in
-      let b = total-change (λ s. above-zero (s .lag)) t k gone inside in
-      let c = not-more (above-zero (at t k .lag)) (total active-rate (change t k gone)) in
-      omega arith
+      let r = share-at (lost t k) (rates-left t k) 0 (less t k) j in
+      ap g (r .1) ∙ h (r .0) (at (less t k) j) ∙ change-same g t k gone l j
 
   departed-total : (g : Session → ℕ) → ((n : ℕ) (s : Session) → g (owed n s) ≡ g s) → ((s : Session) → g (gone s) ≡ g s) → total g (departed t (Some k)) ≡ total g t
   unfolding departed
-  departed-total g h l = total-share g h (above-zero (at t k .lag)) (total active-rate (change t k gone)) 0 (change t k gone) ∙ total-same g t k gone (l (at t k))
+  departed-total g h l = total-share g h (lost t k) (rates-left t k) 0 (less t k) ∙ total-same g t k gone (l (at t k))
 
 -- ---- all departures
 
 once-draft : (m : ℕ) (t : Table) (o : Option ℕ) → first departing t ≡ o → Draft m t → Draft m (departed t o)
 unfolding departed
 once-draft m t None e d = d
-once-draft m t (Some k) e d = let f = first-found departing t k e in departed-draft m t k (f .0) (f .1) d
+once-draft m t (Some k) e d = let f = first-found departing t k e in departed-draft t k (f .0) (f .1) m d
+
+-- the same in the midst of a turn
+pub once-midway : (most : ℕ) (t : Table) (k : ℕ) → first departing t ≡ Some k → Midway most t → Midway most (departed t (Some k))
+once-midway most t k e d = let f = first-found departing t k e in departed-midway t k (f .0) (f .1) most d
+
+pub once-fewer : (t : Table) (k : ℕ) → first departing t ≡ Some k → active-count (departed t (Some k)) + 1 ≡ active-count t
+once-fewer t k e = let f = first-found departing t k e in departed-count t k (f .0) (f .1)
 
 pub depart-draft : (m n : ℕ) (t : Table) → Draft m t → Draft m (depart n t)
 unfolding depart
@@ -232,7 +280,7 @@ depart-draft m (suc n) t d = depart-draft m n (departed t (first departing t)) (
 once-same : {X : Type 0} (g : Session → X) → ((n : ℕ) (s : Session) → g (owed n s) ≡ g s) → ((s : Session) → g (gone s) ≡ g s) → (t : Table) (o : Option ℕ) → first departing t ≡ o → (j : ℕ) → g (at (departed t o) j) ≡ g (at t j)
 unfolding departed
 once-same g h l t None e j = refl
-once-same g h l t (Some k) e j = let f = first-found departing t k e in departed-same 0 t k (f .0) (f .1) g h l j
+once-same g h l t (Some k) e j = let f = first-found departing t k e in departed-same t k (f .0) (f .1) g h l j
 
 pub depart-same : {X : Type 0} (g : Session → X) → ((n : ℕ) (s : Session) → g (owed n s) ≡ g s) → ((s : Session) → g (gone s) ≡ g s) → (n : ℕ) (t : Table) (j : ℕ) → g (at (depart n t) j) ≡ g (at t j)
 unfolding depart
@@ -242,7 +290,7 @@ depart-same g h l (suc n) t j = depart-same g h l n (departed t (first departing
 once-total : (g : Session → ℕ) → ((n : ℕ) (s : Session) → g (owed n s) ≡ g s) → ((s : Session) → g (gone s) ≡ g s) → (t : Table) (o : Option ℕ) → first departing t ≡ o → total g (departed t o) ≡ total g t
 unfolding departed
 once-total g h l t None e = refl
-once-total g h l t (Some k) e = let f = first-found departing t k e in departed-total 0 t k (f .0) (f .1) g h l
+once-total g h l t (Some k) e = let f = first-found departing t k e in departed-total t k (f .0) (f .1) g h l
 
 pub depart-total : (g : Session → ℕ) → ((n : ℕ) (s : Session) → g (owed n s) ≡ g s) → ((s : Session) → g (gone s) ≡ g s) → (n : ℕ) (t : Table) → total g (depart n t) ≡ total g t
 unfolding depart
@@ -252,7 +300,7 @@ depart-total g h l (suc n) t = depart-total g h l n (departed t (first departing
 once-owes : (t : Table) (o : Option ℕ) → first departing t ≡ o → owing (departed t o) ≤ owing t
 unfolding departed
 once-owes t None e = le-refl _
-once-owes t (Some k) e = let f = first-found departing t k e in departed-owes 0 t k (f .0) (f .1)
+once-owes t (Some k) e = let f = first-found departing t k e in departed-owes t k (f .0) (f .1)
 
 pub depart-owes : (n : ℕ) (t : Table) → owing (depart n t) ≤ owing t
 unfolding depart
@@ -265,7 +313,7 @@ unfolding departed
 once-waits t None e j w = omega (arith, ints)
 once-waits t (Some k) e j w =
     let f = first-found departing t k e in
-    let r = departed-waits 0 t k (f .0) (f .1) j w in
+    let r = departed-waits t k (f .0) (f .1) j w in
     let q : at (departed t (Some k)) j .lag ≡ at t j .lag +ℤ pos (r .0) = ap (λ (s : Session). s .lag) (r .1) in
     omega (arith, ints)
 
@@ -301,7 +349,7 @@ depart-ends (suc n) t h = by (first departing t) refl (λ u g. depart-ends n u g
     by None e ih = ap (λ (o : Option ℕ). first departing (depart n (departed t o))) e ∙ ap (first departing) (depart-still n t e) ∙ e
     by (Some k) e ih =
         let f = first-found departing t k e in
-        let c = departed-count 0 t k (f .0) (f .1) in
+        let c = departed-count t k (f .0) (f .1) in
         ap (λ (o : Option ℕ). first departing (depart n (departed t o))) e ∙ ih (departed t (Some k)) (omega arith)
 
 stays-busy : (s : Session) → departing s ≡ false → s .active ≡ true → (waiting s || leads s) ≡ true

@@ -33,7 +33,7 @@ use Rattle.model.specs.Promises.{Gets-its-share, Idles-only-if-none-able, Choo
 use Rattle.model.proofs.Ledger.{Ordered}
 use Rattle.model.proofs.Share.{share-from, stays-fine}
 use Rattle.model.proofs.Chosen.{chosen-next}
-use Rattle.model.proofs.Turn.{Rightly, decides}
+use Rattle.model.proofs.Senders.{Rightly, decides}
 use Rattle.model.proofs.Cases.{each-case}
 use Rattle.model.proofs.Calls.{step-good}
 use Rattle.model.proofs.Bounds.{Within, step-within}

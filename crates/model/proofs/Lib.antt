@@ -4,6 +4,7 @@ pub mod Share
 pub mod Settle
 pub mod Departures
 pub mod Chosen
+pub mod Senders
 pub mod Turn
 pub mod Turned
 pub mod Calm

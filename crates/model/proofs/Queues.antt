@@ -26,7 +26,7 @@ use Rattle.model.proofs.Tables.{length-change, at-change, at-other, change-sam
 use Rattle.model.proofs.Ledger.{Ordered}
 use Rattle.model.proofs.Share.{able-within}
 use Rattle.model.proofs.Departures.{depart-same}
-use Rattle.model.proofs.Turn.{Rightly, decides, Chosen, chosen-is}
+use Rattle.model.proofs.Senders.{Rightly, decides}
 use Rattle.model.proofs.Cases.{each-case}
 
 front-and-rest : (q : List Frame) → some-wait q ≡ true → q ≡ front q ∷ rest q

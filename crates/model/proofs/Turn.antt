@@ -1,4 +1,4 @@
--- What one turn does: who sends, and what it leaves in the accounts before departures.
+-- What one turn leaves in the accounts before departures.
 use Prim.Native.Nat.{ℕ, zero, suc, _+_, _-_, _*_, _/_, _≤_, _<_, min, max}
 use native.Mathlib.Omega.{arith}
 use native.Mathlib.Nat.{mul-le-mul-left, mul-le-mul-right, le-trans, le-refl}
@@ -30,116 +30,8 @@ use Rattle.model.specs.Sound.{Fits}
 use Rattle.model.proofs.Tables.{length-change, at-past, at-change, at-other, total-change, total-same, totalℤ-change, totalℤ-same, first-found, change-same, at-le-total, total-change-le}
 use Rattle.model.proofs.Ledger.{Row, Draft, Book, Ordered, excess, owing}
 use Rattle.model.proofs.Share.{least-reached, active-booked, able-active, able-within}
-use Rattle.model.proofs.Chosen.{chosen-next}
+use Rattle.model.proofs.Senders.{Rightly, Chosen}
 use Rattle.model.proofs.Departures.{owed-more}
-
--- ---- who sends
-
-entry-offered : (b : Bool) (s : Session) → entry b s .offered ≡ b
-entry-offered true s = refl
-entry-offered false s = refl
-
-not-vacant : (l : Line) → false ≡ in-line l vacant
-not-vacant Credit = refl
-not-vacant Extra = refl
-
--- an offer offers exactly those in the list
-offered-is : (l : Line) (t : Table) (j : ℕ) → offered-at (offer l t) j ≡ in-line l (at t j)
-unfolding at
-offered-is l [] j = not-vacant l
-offered-is l (s ∷ t) zero = entry-offered (in-line l s) s
-offered-is l (s ∷ t) (suc j) = offered-is l t j
-
--- what each way says of the chosen session s and of the sender
-abbrev pub Rightly : Table → Session → Way → Type 0
-Rightly t s by-right = able s ≡ true
-Rightly t s by-allowance = able s ≡ true
-Rightly t s unclaimed = able s ≡ true
-Rightly t s (by-credit q) = (able (at t q) ≡ true) × (lags (at t q) ≡ true) × (able s ≡ true → leads s ≡ true)
-Rightly t s (by-extra q) = (able (at t q) ≡ true) × (able s ≡ false)
-Rightly t s idle = (j : ℕ) → able (at t j) ≡ false
-
-neither : (a l : Bool) → (a && l) ≡ false → (a && not l) ≡ false → a ≡ false
-neither true true e f = e
-neither true false e f = f
-neither false l e f = refl
-
-rightly : (t : Table) (s : Session) (a l b : Bool) (p q : Option ℕ) → able s ≡ a → leads s ≡ l → Picks-offered (offer Credit t) p → Picks-offered (offer Extra t) q → Rightly t s (way a l b p q)
-rightly t s true false b p q e f g h = e
-rightly t s true true true p q e f g h = e
-rightly t s true true false (Some j) q e f g h = let r = and-parts (able (at t j)) (lags (at t j)) (sym (offered-is Credit t j) ∙ g) in (r .0, r .1, λ _. f)
-rightly t s true true false None q e f g h = e
-rightly t s false l b (Some j) q e f g h = let r = and-parts (able (at t j)) (lags (at t j)) (sym (offered-is Credit t j) ∙ g) in (r .0, r .1, λ a. absurd (both-ways (able s) e a))
-rightly t s false l b None (Some j) e f g h = let r = and-parts (able (at t j)) (not (lags (at t j))) (sym (offered-is Extra t j) ∙ h) in (r .0, e)
-rightly t s false l b None None e f g h = λ j. neither (able (at t j)) (lags (at t j)) (sym (offered-is Credit t j) ∙ g j) (sym (offered-is Extra t j) ∙ h j)
-
--- ---- offers are sound
-
-sides : (t : Table) → totalℤ (λ s. s .lag) t +ℤ pos (total (λ s. below-zero (s .lag)) t) ≡ pos (owing t)
-unfolding total totalℤ
-sides [] = refl
-sides (s ∷ t) = by (s .lag) (totalℤ (λ s. s .lag) t) (total (λ s. below-zero (s .lag)) t) (owing t) (sides t)
-  where
-    by : (z y : ℤ) (a b : ℕ) → y +ℤ pos a ≡ pos b → (z +ℤ y) +ℤ pos (below-zero z + a) ≡ pos (above-zero z + b)
-    by (pos n) y a b e = omega (arith, ints)
-    by (negsuc n) y a b e = omega (arith, ints)
-
-abs-within : (z : ℤ) (n : ℕ) → above-zero z ≤ n → below-zero z ≤ n → natAbs z ≤ n
-abs-within (pos k) n a b = a
-abs-within (negsuc k) n a b = b
-
--- no lag is further from zero than all lagging sessions together are owed
-pub lag-within : (m : ℕ) (t : Table) (j : ℕ) → Draft m t → j < length t → natAbs (at t j .lag) ≤ owing t
-lag-within m t j d l =
-    let b = at-le-total (λ s. below-zero (s .lag)) t j l in
-    let c = sides t in
-    let e = d .balance in
-    let f : total (λ s. below-zero (s .lag)) t ≡ owing t = omega (arith, ints) in
-    abs-within (at t j .lag) (owing t) (at-le-total (λ s. above-zero (s .lag)) t j l) (omega arith)
-
-length-offer : (l : Line) (t : Table) → length (offer l t) ≡ length t
-length-offer l [] = refl
-length-offer l (s ∷ t) = ap suc (length-offer l t)
-
-all-offer : (l : Line) (t : Table) → ((j : ℕ) → sound-entry (entry (in-line l (at t j)) (at t j)) ≡ true) → all-sound (offer l t) ≡ true
-unfolding at all-sound
-all-offer l [] h = refl
-all-offer l (s ∷ t) h = and-from (sound-entry (entry (in-line l s) s)) (all-sound (offer l t)) (h 0) (all-offer l t (λ j. h (suc j)))
-
-line-able : (l : Line) (s : Session) → in-line l s ≡ true → able s ≡ true
-line-able Credit s e = and-parts (able s) (lags s) e .0
-line-able Extra s e = and-parts (able s) (not (lags s)) e .0
-
-sound-offer : {C : Type 0} (x : Cell C) (l : Line) → Ordered x → sound (offer l (x .table)) ≡ true
-sound-offer x l s = and-from (eqb (length (offer l (x .table))) 64) (all-sound (offer l (x .table))) (eq-eqb (length (offer l (x .table))) 64 (length-offer l (x .table) ∙ s .book .draft .size)) (all-offer l (x .table) (λ j. by j (in-line l (at (x .table) j)) refl))
-  where
-    by : (j : ℕ) (b : Bool) → in-line l (at (x .table) j) ≡ b → sound-entry (entry b (at (x .table) j)) ≡ true
-    by j false e = refl
-    by j true e =
-        let a = line-able l (at (x .table) j) e in
-        let r = s .book .draft .rows j in
-        and-from (eqb (at (x .table) j .rate * at (x .table) j .price) 720720) (leb (natAbs (at (x .table) j .lag)) 3072000000000)
-        (eq-eqb (at (x .table) j .rate * at (x .table) j .price) 720720 (r .priced (active-booked (x .mark) (at (x .table) j) r (able-active (x .mark) (at (x .table) j) r a))))
-        (le-leb (natAbs (at (x .table) j .lag)) 3072000000000 (omega (arith, lag-within (x .mark) (x .table) j (s .book .draft) (able-within (x .table) j a), s .owing, s .few)))
-
-pub decides : {C : Type 0} (M : Meaning C) → Lawful M → (x : Cell C) (c : ℕ) → Ordered x → Rightly (x .table) (at (x .table) c) (decide M x c)
-unfolding decide
-decides M law x c f =
-    rightly (x .table) (at (x .table) c) (able (at (x .table) c)) (leads (at (x .table) c)) _ _ _ refl refl
-    (law (x .chooser) Credit (offer Credit (x .table)) (sound-offer x Credit f))
-    (law (x .chooser) Extra (offer Extra (x .table)) (sound-offer x Extra f))
-
--- the chosen session is active and at the mark
-pub record Chosen (m : ℕ) (t : Table) (c : ℕ) : Type 0 where
-  pub inside : c < length t
-  pub active : at t c .active ≡ true
-  pub level : at t c .virtual-time ≡ m
-
-pub chosen-is : (m : ℕ) (t : Table) (c : ℕ) → Book m t → chosen t ≡ Some c → Chosen m t c
-chosen-is m t c b e =
-    let n = chosen-next t c e in
-    let k = least-reached t m (b .lowest c (n .active)) in
-    record { inside = n .inside; active = n .active; level = omega (arith, n .least (k .0) (k .2), k .3, b .draft .rows c .ahead (n .active)) }
 
 -- ---- what the chosen session and the sender become
 

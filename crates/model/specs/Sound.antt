@@ -39,6 +39,15 @@ pub record Books (keep mark turns : ℕ) (t : Table) : Type 0 where
   pub few : turns ≤ most-turns
   pub modest : keep ≤ quarters
 
+-- a table in the midst of a turn, all lagging sessions together being owed at most so much
+pub record Midway (most : ℕ) (t : Table) : Type 0 where
+  pub size : length t ≡ places
+  pub rates : booked-total t ≤ link
+  pub balance : totalℤ (λ s. s .lag) t ≡ pos 0
+  pub owing : total (λ s. above-zero (s .lag)) t ≤ most
+  pub quiet : (j : ℕ) → at t j .active ≡ false → at t j .lag ≡ pos 0
+  pub counted : (j : ℕ) → at t j .active ≡ true → 0 < at t j .rate
+
 abbrev pub Sound : {C : Type 0} → Cell C → Type 0
 Sound x = Books (x .keep) (x .mark) (x .turns) (x .table)
 
