@@ -1,28 +1,24 @@
 -- The books of a cell: in order when it is new, kept in order by every call, and what they say of each number.
-use Prim.Native.Nat.{ℕ, zero, suc, _+_, _*_, _≤_, _<_}
+use Prim.Native.Nat.{ℕ, zero, suc, _*_, _≤_}
 use native.Mathlib.Omega.{arith}
 use native.Mathlib.Nat.{le-trans}
 use mathlib.Core.Path.{_≡_, refl, sym, ap, _∙_, subst}
-use mathlib.Core.Bool.{Bool, true, false, _||_}
-use mathlib.Core.List.{List, [], _∷_}
+use mathlib.Core.Bool.{true, false, _||_}
 use mathlib.Core.Logic.{_⊎_, inl, inr}
 use lib.ListN.{length}
-use lib.IntN.{ℤ, pos, _+ℤ_, natAbs}
+use lib.IntN.{ℤ, pos, natAbs}
 use lib.Signed.{ltZ}
 use borrow.Author.Differences.{ints}
-use Rattle.std.specs.declared.option.Option.{Option}
-use Rattle.std.specs.declared.option.Option.the-variants.{None, Some}
-use Rattle.std.proofs.shelf.Tests.{cases-bool, both-ways, false≢true, or-parts, or-from, cases-lt}
-use Rattle.chooser.specs.Offers.{lag-bound}
-use Rattle.model.specs.Limits.{places, longest, quarters, dearest}
+use Rattle.std.specs.declared.option.Option.the-variants.{Some}
+use Rattle.std.proofs.shelf.Tests.{cases-bool, false≢true, or-parts, or-from}
+use Rattle.model.specs.Limits.{places, longest, quarters}
 use Rattle.model.specs.Session.{Session, vacant, waiting, leads, above-zero}
-use Rattle.model.specs.Table.{Table, at, vacancies, total, totalℤ, booked-total, least}
+use Rattle.model.specs.Table.{at, vacancies, total, totalℤ, least}
 use Rattle.model.specs.Meaning.{Meaning, Lawful}
 use Rattle.model.specs.Cell.{Cell}
 use Rattle.model.specs.Calls.{Call, step, new}
-use Rattle.model.specs.Sound.{Orderly, Books, Sound}
-use Rattle.model.proofs.Tables.{at-past}
-use Rattle.model.proofs.Ledger.{Row, Draft, Book, Ordered, owing}
+use Rattle.model.specs.Sound.{Orderly, Sound}
+use Rattle.model.proofs.Ledger.{Row, Book, Ordered, owing}
 use Rattle.model.proofs.Share.{least-reached}
 use Rattle.model.proofs.Settle.{least-some}
 use Rattle.model.proofs.Senders.{lag-within}

@@ -1,10 +1,10 @@
 -- How far virtual times, the mark and allowances can get: one frame at the dearest price for each accepted turn.
-use Prim.Native.Nat.{ℕ, zero, suc, _+_, _*_, _≤_, _<_, max}
+use Prim.Native.Nat.{ℕ, zero, suc, _+_, _*_, _≤_, max}
 use native.Mathlib.Omega.{arith}
 use native.Mathlib.Nat.{mul-le-mul}
 use mathlib.Core.Path.{_≡_, refl, sym, subst}
 use mathlib.Core.Bool.{Bool, true, false, not, _&&_}
-use mathlib.Core.List.{List, [], _∷_}
+use mathlib.Core.List.{[], _∷_}
 use lib.ListN.{length}
 use lib.IntN.{ℤ, pos, negsuc, _+ℤ_, _-ℤ_, natAbs}
 use lib.Signed.{ltZ}
@@ -14,7 +14,7 @@ use Rattle.std.specs.declared.option.Option.the-variants.{None, Some}
 use Rattle.std.proofs.shelf.Tests.{cond-both}
 use Rattle.tariff.specs.Tariff.{link, price-of}
 use Rattle.model.specs.Limits.{longest, quarters, dearest}
-use Rattle.model.specs.Session.{Frame, Session, vacant, fresh, with-good, leads}
+use Rattle.model.specs.Session.{Session, vacant, fresh, with-good, leads}
 use Rattle.model.specs.Table.{Table, at, change, least, greatest, none-active, active-count, chosen}
 use Rattle.model.specs.Meaning.{Meaning, Lawful}
 use Rattle.model.specs.Turn.{Way, by-right, by-allowance, by-credit, unclaimed, by-extra, idle, sender, length-of, charged, sends, hands-on, takes-up, turned}
@@ -100,7 +100,7 @@ module _ (keep n b : ℕ) (t : Table) (c : ℕ) (k : keep ≤ quarters) (d : n *
       let given = one-low (hands-on keep n) (charge-low 0 (omega arith)) in
       each-change (Low (b + dearest)) (change t c (hands-on keep n)) q (takes-up n) given (takes-low n (b + dearest) (at (change t c (hands-on keep n)) q) (given q))
 
-  turned-low : (w : Way) (j : ℕ) → Low (b + dearest) (at (turned keep t c n w) j)
+  pub turned-low : (w : Way) (j : ℕ) → Low (b + dearest) (at (turned keep t c n w) j)
   unfolding turned
   turned-low by-right = one-low (sends keep 0 n) (charge-low 0 (omega arith))
   turned-low by-allowance = one-low (sends keep quarters n) (charge-low quarters (omega arith))

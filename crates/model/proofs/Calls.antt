@@ -1,15 +1,13 @@
 -- What each call leaves: a cell in order, and the accounts moved as the argument about shares wants.
-use Prim.Native.Nat.{ℕ, _+_, _*_, _≤_, _<_}
+use Prim.Native.Nat.{ℕ, _≤_, _<_}
 use native.Mathlib.Omega.{arith}
-use native.Mathlib.Nat.{le-trans, le-refl}
-use mathlib.Core.Path.{_≡_, refl, sym, ap, _∙_, subst}
+use native.Mathlib.Nat.{le-refl}
+use mathlib.Core.Path.{_≡_, refl, ap, _∙_, subst}
 use mathlib.Core.Bool.{Bool, true, false, cond}
-use mathlib.Core.List.{List, [], _∷_}
+use mathlib.Core.List.{[], _∷_}
 use mathlib.Core.Logic.{inl}
 use lib.Dec.{eqb}
 use lib.ListN.{length}
-use lib.IntN.{pos, _+ℤ_}
-use lib.Signed.{_≤ℤ_}
 use borrow.Author.Differences.{ints}
 use Rattle.std.specs.declared.option.Option.{Option}
 use Rattle.std.specs.declared.option.Option.the-variants.{None, Some}
@@ -19,15 +17,15 @@ use Rattle.answer.specs.declared.turn.Answer.the-variants.{Turn as Turned}
 use Rattle.tariff.specs.Tariff.{link, price-of}
 use Rattle.model.specs.Limits.{longest, most-turns}
 use Rattle.model.specs.Session.{Frame, Session, vacant, fresh, with-good, able, above-zero}
-use Rattle.model.specs.Table.{Table, at, change, total, booked-total, chosen}
+use Rattle.model.specs.Table.{Table, at, change, booked-total}
 use Rattle.model.specs.Meaning.{Meaning, Lawful}
 use Rattle.model.specs.Turn.{Way, sender, front, length-of, sent-of, answer-of, turned}
 use Rattle.model.specs.Departures.{departures}
 use Rattle.model.specs.Cell.{Cell, settled}
-use Rattle.model.specs.Calls.{Call, opening, closing, arrival, report, turn, arrived, Outcome, changed, decide, turn-after, turn-of, accepted, step}
+use Rattle.model.specs.Calls.{Call, arrived, Outcome, changed, decide, turn-after, accepted, step}
 use Rattle.model.specs.History.{sent-frame, sent-from, taken, taken-from, bytes}
 use Rattle.model.proofs.Tables.{total-change, total-same}
-use Rattle.model.proofs.Ledger.{Ordered, Move, excess, owing}
+use Rattle.model.proofs.Ledger.{Ordered, Move, owing}
 use Rattle.model.proofs.Senders.{Rightly, decides, Chosen, chosen-is}
 use Rattle.model.proofs.Turn.{way-fits, Part, named}
 use Rattle.model.proofs.Turned.{turn-book, turn-owes, turn-rises, turn-pays, turn-part, turn-price}

@@ -4,11 +4,10 @@ use native.Mathlib.Omega.{arith}
 use native.Mathlib.Nat.{zero-mul}
 use native.Mathlib.Decide.{ℕ-discrete}
 use mathlib.Core.Path.{_≡_, refl, sym, ap, _∙_, subst}
-use mathlib.Core.Bool.{Bool, true, false, cond, _&&_, _||_}
+use mathlib.Core.Bool.{Bool, true, false, cond, _||_}
 use mathlib.Core.List.{List, [], _∷_, _++_}
 use mathlib.Core.Logic.{_⊎_, inl, inr}
 use lib.ListN.{length}
-use Rattle.std.specs.shelf.Lists.{All}
 use Rattle.std.proofs.shelf.Lists.{length-append}
 use Rattle.std.proofs.shelf.Elements.{all-append}
 use Rattle.std.proofs.shelf.Tests.{cases-bool, both-ways, true≢false, false≢true, or-left, cond-true, cond-false}
@@ -16,7 +15,7 @@ use Rattle.tariff.specs.Tariff.{link, in-tariff, price-of}
 use Rattle.tariff.proofs.Wholes.{factored}
 use Rattle.model.specs.Limits.{longest, most-waiting}
 use Rattle.model.specs.Session.{Frame, Session, vacant, fresh, with-good, able, waiting, some-wait, leads}
-use Rattle.model.specs.Table.{Table, at, change, total, totalℤ, booked-total}
+use Rattle.model.specs.Table.{Table, at, change, total, booked-total}
 use Rattle.model.specs.Cell.{mark-after}
 use Rattle.model.specs.Calls.{arrived}
 use Rattle.model.specs.Sound.{Fits}

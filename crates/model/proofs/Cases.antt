@@ -1,8 +1,8 @@
 -- The ways in which a call can go: refused, or accepted with all its tests passed.
 use Prim.Native.Nat.{ℕ, _+_, _≤_, _<_}
 use native.Mathlib.Omega.{arith}
-use mathlib.Core.Path.{_≡_, refl, sym, ap, subst}
-use mathlib.Core.Bool.{Bool, true, false, cond, not, _||_}
+use mathlib.Core.Path.{_≡_, refl, sym, subst}
+use mathlib.Core.Bool.{Bool, true, false, cond}
 use mathlib.Core.List.{List, [], _∷_}
 use lib.Dec.{eqb, ltb, leb}
 use lib.ListN.{length}
@@ -14,8 +14,7 @@ use Rattle.std.proofs.shelf.Tests.{not-false, or-parts, eqb-false, ltb-false, l
 use Rattle.answer.specs.declared.refusal.Refusal.{Refusal}
 use Rattle.tariff.specs.Tariff.{link, in-tariff}
 use Rattle.model.specs.Limits.{places, longest, most-waiting, most-turns}
-use Rattle.model.specs.Session.{Session}
-use Rattle.model.specs.Table.{at, booked-total, none-active, chosen}
+use Rattle.model.specs.Table.{at, booked-total, chosen}
 use Rattle.model.specs.Meaning.{Meaning}
 use Rattle.model.specs.Cell.{Cell}
 use Rattle.model.specs.Calls.{Call, opening, closing, arrival, report, turn, first-of, refusal, refusals, found, Outcome, turn-of, accepted, outcome, step}

@@ -1,19 +1,18 @@
 -- Departures keep the accounts, and end when nobody is gone to depart.
-use Prim.Native.Nat.{ℕ, zero, suc, _+_, _-_, _*_, _/_, _≤_, _<_, min, max}
+use Prim.Native.Nat.{ℕ, zero, suc, _+_, _-_, _*_, _/_, _≤_, _<_}
 use native.Mathlib.Omega.{arith}
-use native.Mathlib.Nat.{mul-le-mul-left, mul-le-mul-right, le-trans, le-refl, le-div-iff-mul-le, div-zero, div-mul-le-self, add-zero, zero-add, mul-zero, zero-mul, zero-div, mul-div-cancel, sub-self, sub-zero}
+use native.Mathlib.Nat.{mul-le-mul-left, le-trans, le-refl, le-div-iff-mul-le, div-zero, div-mul-le-self, add-zero, zero-add, mul-zero, zero-div, mul-div-cancel, sub-self}
 use mathlib.Core.Path.{_≡_, refl, sym, ap, ap₂, _∙_, subst}
-use mathlib.Core.Bool.{Bool, true, false, cond, not, _&&_, _||_}
-use mathlib.Core.List.{List, [], _∷_}
+use mathlib.Core.Bool.{Bool, true, false, not, _&&_, _||_}
+use mathlib.Core.List.{[], _∷_}
 use Rattle.std.specs.declared.option.Option.{Option}
 use Rattle.std.specs.declared.option.Option.the-variants.{None, Some}
 use mathlib.Core.Logic.{_⊎_, inl, inr}
-use native.Mathlib.Decide.{ℕ-discrete}
 use lib.ListN.{length}
 use lib.IntN.{ℤ, pos, negsuc, _+ℤ_}
 use lib.Signed.{_≤ℤ_, ltZ}
 use borrow.Author.Differences.{ints}
-use Rattle.std.proofs.shelf.Tests.{cases-bool, both-ways, true≢false, false≢true, and-parts, and-from, not-true, not-from-false, or-left, or-right, cond-true, cond-false}
+use Rattle.std.proofs.shelf.Tests.{cases-bool, both-ways, true≢false, false≢true, and-parts, not-true, cond-true, cond-false}
 use Rattle.tariff.specs.Tariff.{link}
 use Rattle.model.specs.Session.{Session, vacant, waiting, leads, above-zero}
 use Rattle.model.specs.Table.{active-count, Table, at, change, total, totalℤ, first, one-if}

@@ -1,5 +1,5 @@
 -- What holds in every history of a new cell: what each call keeps, carried along a run.
-use Prim.Native.Nat.{ℕ, _+_, _*_, _≤_, _<_}
+use Prim.Native.Nat.{ℕ, _+_, _≤_}
 use native.Mathlib.Omega.{arith}
 use native.Mathlib.Nat.{le-trans, le-refl}
 use mathlib.Core.Path.{_≡_, refl, sym, ap, _∙_, subst}
@@ -7,7 +7,6 @@ use mathlib.Core.Bool.{Bool, true, false, cond}
 use mathlib.Core.List.{List, [], _∷_, _++_}
 use mathlib.Core.Logic.{_↔_}
 use lib.Dec.{eqb}
-use lib.IntN.{pos, natAbs}
 use Rattle.std.specs.declared.option.Option.{Option}
 use Rattle.std.specs.declared.option.Option.the-variants.{None, Some}
 use Rattle.std.specs.declared.result.Result.{Result}
@@ -22,16 +21,16 @@ use Rattle.answer.specs.declared.turn.Kind.the-variants.{Normal, Credit, Kept, 
 use Rattle.answer.specs.declared.turn.Sent.{Sent}
 use Rattle.answer.specs.declared.turn.Turn.{Turn}
 use Rattle.model.specs.Limits.{places, idle-length, quarters}
-use Rattle.model.specs.Session.{Frame, Session, able}
+use Rattle.model.specs.Session.{Frame, able}
 use Rattle.model.specs.Table.{Table, at, chosen}
 use Rattle.model.specs.Meaning.{Meaning, Lawful}
 use Rattle.model.specs.Turn.{Way, by-right, by-allowance, by-credit, unclaimed, by-extra, idle, sender, kind, sent-of, length-of, answer-of}
 use Rattle.model.specs.Cell.{Cell, settled}
-use Rattle.model.specs.Calls.{Call, opening, closing, arrival, report, turn, refusal, Outcome, decide, turn-after, turn-of, accepted, outcome, step, new}
+use Rattle.model.specs.Calls.{Call, opening, closing, arrival, report, turn, refusal, Outcome, decide, turn-after, accepted, outcome, step, new}
 use Rattle.model.specs.History.{sent-from, taken-from, brought-to, frame-of, bytes, sum-to, after, sent, sent-by, brought, Throughout}
 use Rattle.model.specs.Promises.{Gets-its-share, Idles-only-if-none-able, Chooses-the-least-advanced, Says-who-sent, Says-when-idle, Keeps-the-queues, Sends-what-it-says, Counts-every-byte, Always-balanced, Active-exactly-when, Refuses-without-trace, Mark-never-falls, Closing-sheds-nothing, Stays-within, Keeps-its-books, Promises}
 use Rattle.model.proofs.Ledger.{Ordered}
-use Rattle.model.proofs.Share.{share-from, stays-fine}
+use Rattle.model.proofs.Share.{share-from}
 use Rattle.model.proofs.Chosen.{chosen-next}
 use Rattle.model.proofs.Senders.{Rightly, decides}
 use Rattle.model.proofs.Cases.{each-case}

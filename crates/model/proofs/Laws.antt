@@ -1,12 +1,12 @@
 -- What departures do, of any table.
-use Prim.Native.Nat.{ℕ, zero, suc, _+_, _-_, _*_, _/_, _<_}
+use Prim.Native.Nat.{ℕ, zero, suc, _+_, _-_, _*_, _/_}
 use native.Mathlib.Omega.{arith}
 use native.Mathlib.Nat.{zero-add, mul-zero, zero-div, sub-zero}
-use mathlib.Core.Path.{_≡_, refl, sym, ap, _∙_}
-use mathlib.Core.List.{List, [], _∷_}
+use mathlib.Core.Path.{_≡_, refl, ap, _∙_}
+use mathlib.Core.List.{[], _∷_}
 use lib.IntN.{ℤ, pos, _+ℤ_, +ℤ-idr}
 use lib.ListN.{take}
-use Rattle.model.specs.Session.{Session, with-lag}
+use Rattle.model.specs.Session.{with-lag}
 use Rattle.model.specs.Table.{Table, at, total, totalℤ}
 use Rattle.model.specs.Turn.{owed}
 use Rattle.model.specs.Departures.{active-rate, part, share}

@@ -1,7 +1,7 @@
 -- What the argument about a session's share reads off a cell, and what one call may do to it. Nothing here says how a turn works.
-use Prim.Native.Nat.{ℕ, _+_, _-_, _*_, _≤_, _<_}
+use Prim.Native.Nat.{ℕ, _+_, _-_, _*_, _≤_}
 use mathlib.Core.Path.{_≡_}
-use mathlib.Core.Bool.{Bool, true, false, _||_}
+use mathlib.Core.Bool.{true, false, _||_}
 use mathlib.Core.Logic.{_⊎_}
 use lib.ListN.{length}
 use lib.IntN.{ℤ, pos, _+ℤ_}

@@ -18,3 +18,4 @@ pub mod Histories
 pub mod Meant
 pub mod Order
 pub mod Figures
+pub mod Uses

@@ -3,7 +3,7 @@ use Prim.Native.Nat.{ℕ, zero, suc, _+_, _≤_, _<_}
 use native.Mathlib.Omega.{arith}
 use native.Mathlib.Decide.{ℕ-discrete}
 use mathlib.Core.Path.{_≡_, refl, sym, ap, ap₂, _∙_, subst}
-use mathlib.Core.Bool.{Bool, true, false, cond}
+use mathlib.Core.Bool.{true, false, cond}
 use mathlib.Core.List.{List, [], _∷_, _++_}
 use mathlib.Core.Logic.{_⊎_, inl, inr}
 use lib.Dec.{eqb}
@@ -14,7 +14,7 @@ use Rattle.std.proofs.shelf.Tests.{cond-true, cond-false, eq-eqb, ne-eqb, false
 use Rattle.std.proofs.shelf.Lists.{append-nil}
 use Rattle.tariff.specs.Tariff.{price-of}
 use Rattle.model.specs.Session.{Frame, Session, vacant, fresh, with-good, able, waiting, some-wait}
-use Rattle.model.specs.Table.{Table, at, change, active-count, chosen}
+use Rattle.model.specs.Table.{Table, at, change, active-count}
 use Rattle.model.specs.Meaning.{Meaning, Lawful}
 use Rattle.model.specs.Turn.{Way, by-right, by-allowance, by-credit, unclaimed, by-extra, idle, sender, front, rest, length-of, sent-of, charged, sends, hands-on, takes-up, turned}
 use Rattle.model.specs.Departures.{departures}
@@ -22,7 +22,7 @@ use Rattle.model.specs.Cell.{Cell, settled}
 use Rattle.model.specs.Calls.{Call, arrived, Outcome, decide, turn-after, turn-of, accepted, step}
 use Rattle.model.specs.Limits.{places}
 use Rattle.model.specs.History.{sent-frame, sent-from, taken, taken-from, brought-to, bytes, sum-to}
-use Rattle.model.proofs.Tables.{length-change, at-change, at-other, change-same}
+use Rattle.model.proofs.Tables.{at-change, at-other, change-same}
 use Rattle.model.proofs.Ledger.{Ordered}
 use Rattle.model.proofs.Share.{able-within}
 use Rattle.model.proofs.Departures.{depart-same}
@@ -141,7 +141,7 @@ same-place : (a b : ℕ) → Some a ≡ Some b → a ≡ b
 same-place a b e = cc
 
 -- whoever sends is a place of the table
-sender-inside : (t : Table) (c : ℕ) (w : Way) → Rightly t (at t c) w → (q : ℕ) → sender c w ≡ Some q → q < length t
+pub sender-inside : (t : Table) (c : ℕ) (w : Way) → Rightly t (at t c) w → (q : ℕ) → sender c w ≡ Some q → q < length t
 sender-inside t c by-right r q e = able-within t q (subst (λ (j : ℕ). able (at t j) ≡ true) (same-place c q e) r)
 sender-inside t c by-allowance r q e = able-within t q (subst (λ (j : ℕ). able (at t j) ≡ true) (same-place c q e) r)
 sender-inside t c unclaimed r q e = able-within t q (subst (λ (j : ℕ). able (at t j) ≡ true) (same-place c q e) r)

@@ -1,19 +1,16 @@
 -- The end of a call: the mark follows the table.
-use Prim.Native.Nat.{ℕ, zero, suc, _+_, _-_, _*_, _≤_, _<_, min, max}
+use Prim.Native.Nat.{ℕ, zero, suc, _+_, _-_, _*_, _≤_, min}
 use native.Mathlib.Omega.{arith}
 use native.Mathlib.Nat.{mul-le-mul-right, le-trans, le-refl}
-use mathlib.Core.Path.{_≡_, refl, sym, ap, _∙_, subst}
-use mathlib.Core.Bool.{Bool, true, false, cond, not, _&&_, _||_}
-use mathlib.Core.List.{List, [], _∷_}
+use mathlib.Core.Path.{_≡_, refl, sym, ap, _∙_}
+use mathlib.Core.Bool.{Bool, true, false, _||_}
+use mathlib.Core.List.{[], _∷_}
 use Rattle.std.specs.declared.option.Option.{Option}
 use Rattle.std.specs.declared.option.Option.the-variants.{None, Some}
-use mathlib.Core.Logic.{_⊎_, inl, inr}
-use lib.Dec.{eqb}
-use lib.ListN.{length}
-use Rattle.std.proofs.shelf.Tests.{cases-lt, cases-bool, both-ways, eqb-false, eqb-true, true≢false, false≢true}
+use Rattle.std.proofs.shelf.Tests.{true≢false, false≢true}
 use Rattle.tariff.specs.Tariff.{link}
-use Rattle.model.specs.Session.{Session, vacant, waiting, leads}
-use Rattle.model.specs.Table.{is-none, Table, at, total, least, sooner, greatest, none-active, one-if}
+use Rattle.model.specs.Session.{Session, waiting, leads}
+use Rattle.model.specs.Table.{is-none, Table, at, total, least, sooner, greatest, none-active}
 use Rattle.model.specs.Cell.{mark-from, mark-after}
 use Rattle.model.proofs.Tables.{total-drop}
 use Rattle.model.proofs.Ledger.{Row, Draft, Book, excess}

@@ -1,29 +1,27 @@
 -- A session that is able throughout a stretch gets its share, from what each call does to the accounts.
-use Prim.Native.Nat.{ℕ, zero, suc, _+_, _-_, _*_, _≤_, _<_, min}
+use Prim.Native.Nat.{ℕ, suc, _+_, _-_, _*_, _≤_, _<_, min}
 use native.Mathlib.Omega.{arith}
-use native.Mathlib.Nat.{mul-le-mul-left, mul-le-mul-right, mul-comm, zero-mul, le-trans}
+use native.Mathlib.Nat.{mul-le-mul-left, mul-le-mul-right, zero-mul, le-trans}
 use native.Mathlib.Decide.{ℕ-discrete}
-use mathlib.Core.Path.{_≡_, refl, sym, ap, _∙_, subst}
-use mathlib.Core.Bool.{Bool, true, false, cond, not, _&&_, _||_}
+use mathlib.Core.Path.{_≡_, refl, sym, ap, _∙_}
+use mathlib.Core.Bool.{Bool, true, false}
 use mathlib.Core.List.{List, [], _∷_}
 use Rattle.std.specs.declared.option.Option.{Option}
 use Rattle.std.specs.declared.option.Option.the-variants.{None, Some}
 use mathlib.Core.Logic.{_⊎_, inl, inr}
-use Rattle.std.proofs.shelf.Tests.{cases-lt, and-parts, both-ways, false≢true, cases-bool}
+use Rattle.std.proofs.shelf.Tests.{cases-lt, and-parts, both-ways, cases-bool}
 use lib.ListN.{length}
 use lib.IntN.{ℤ, pos, negsuc, _+ℤ_}
 use lib.Signed.{_≤ℤ_, ltZ}
 use borrow.Author.Differences.{ints}
-use Rattle.tariff.specs.Tariff.{link}
-use Rattle.model.specs.Limits.{longest}
-use Rattle.model.specs.Session.{vacant, Session, able, waiting, leads, lead, below-zero}
-use Rattle.model.specs.Table.{Table, at, total, totalℤ, least, sooner}
+use Rattle.model.specs.Session.{Session, able, waiting, lead, below-zero}
+use Rattle.model.specs.Table.{Table, at, total, least, sooner}
 use Rattle.model.specs.Meaning.{Meaning}
 use Rattle.model.specs.Cell.{Cell}
 use Rattle.model.specs.Calls.{Call, step}
 use Rattle.model.specs.History.{after, sent, sent-by, Always, Able, taken, taken-from, bytes}
 use Rattle.model.proofs.Tables.{at-past, at-le-total, total-but-one, total-but-two}
-use Rattle.model.proofs.Ledger.{Row, Draft, Book, Move, Ran, excess}
+use Rattle.model.proofs.Ledger.{Row, Book, Move, Ran, excess}
 
 -- ---- the arithmetic at the two ends of a stretch
 -- m, n: the mark before and after; v, u: the session's virtual time; x, y: the totals of all excesses; w bytes sent; b charged to the session; p its price, r its rate

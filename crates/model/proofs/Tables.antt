@@ -1,10 +1,9 @@
 -- Facts about a table of places: one place read, one place changed, sums over all places.
-use Prim.Native.Nat.{ℕ, zero, suc, _+_, _-_, _*_, _≤_, _<_, min, max}
+use Prim.Native.Nat.{ℕ, zero, suc, _+_, _*_, _≤_, _<_}
 use native.Mathlib.Omega.{arith}
-use native.Mathlib.Nat.{le-of-suc-le-suc, not-suc-le-zero}
-use mathlib.Core.Path.{_≡_, refl, sym, ap, ap₂, _∙_, subst}
-use mathlib.Core.Bool.{Bool, true, false, cond, not, _&&_, _||_}
-use mathlib.Core.List.{List, [], _∷_}
+use mathlib.Core.Path.{_≡_, refl, sym, ap, _∙_, subst}
+use mathlib.Core.Bool.{Bool, true, false, cond}
+use mathlib.Core.List.{[], _∷_}
 use Rattle.std.specs.declared.option.Option.{Option}
 use Rattle.std.specs.declared.option.Option.the-variants.{None, Some}
 use mathlib.Core.Logic.{_⊎_, inl, inr}
@@ -12,8 +11,8 @@ use lib.IntN.{ℤ, pos, _+ℤ_}
 use borrow.Author.Differences.{ints}
 use lib.ListN.{length, getD, set}
 use Rattle.std.proofs.shelf.Tests.{cases-bool, both-ways, cond-true}
-use Rattle.model.specs.Session.{Session, vacant, with-active, waiting, leads}
-use Rattle.model.specs.Table.{Table, at, change, total, totalℤ, first, next, least, sooner}
+use Rattle.model.specs.Session.{Session, vacant}
+use Rattle.model.specs.Table.{Table, at, change, total, totalℤ, first, next}
 
 pub length-change : (t : Table) (k : ℕ) (f : Session → Session) → length (change t k f) ≡ length t
 unfolding change

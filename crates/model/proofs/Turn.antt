@@ -1,35 +1,29 @@
 -- What one turn leaves in the accounts before departures.
-use Prim.Native.Nat.{ℕ, zero, suc, _+_, _-_, _*_, _/_, _≤_, _<_, min, max}
+use Prim.Native.Nat.{ℕ, _+_, _-_, _*_, _≤_, _<_}
 use native.Mathlib.Omega.{arith}
-use native.Mathlib.Nat.{mul-le-mul-left, mul-le-mul-right, le-trans, le-refl}
+use native.Mathlib.Nat.{mul-le-mul-right, le-trans, le-refl}
 use mathlib.Core.Path.{_≡_, refl, sym, ap, ap₂, _∙_, subst}
-use mathlib.Core.Bool.{Bool, true, false, cond, not, _&&_, _||_}
+use mathlib.Core.Bool.{true, false, cond}
 use mathlib.Core.List.{List, [], _∷_}
 use Rattle.std.specs.declared.option.Option.{Option}
 use Rattle.std.specs.declared.option.Option.the-variants.{None, Some}
 use mathlib.Core.Logic.{_⊎_, inl, inr}
 use native.Mathlib.Decide.{ℕ-discrete}
-use lib.Dec.{eqb, leb}
+use lib.Dec.{eqb}
 use lib.ListN.{length}
-use lib.IntN.{ℤ, pos, negsuc, _+ℤ_, _-ℤ_, natAbs}
-use lib.Signed.{_≤ℤ_, ltZ, leZ}
+use lib.IntN.{ℤ, pos, negsuc, _+ℤ_, _-ℤ_}
+use lib.Signed.{_≤ℤ_, ltZ}
 use borrow.Author.Differences.{ints}
-use Rattle.std.proofs.shelf.Tests.{cases-bool, both-ways, true≢false, false≢true, and-parts, and-from, not-true, not-from-false, cond-true, cond-false, eqb-true, eq-eqb, ne-eqb, le-leb}
+use Rattle.std.proofs.shelf.Tests.{both-ways, false≢true, and-parts, cond-true, cond-false, eq-eqb, ne-eqb}
 use Rattle.std.specs.shelf.Lists.{All}
 use Rattle.tariff.specs.Tariff.{link}
-use Rattle.chooser.specs.Offers.{lag-bound, is-booked, is-idle, offered-at, Picks-offered, sound-entry, all-sound, sound}
-use Rattle.model.specs.Limits.{most-turns}
-use Rattle.model.specs.Session.{Frame, Session, vacant, able, waiting, some-wait, leads, lags, above-zero, below-zero}
-use Rattle.model.specs.Table.{Table, at, change, total, totalℤ, first, least, due, chosen, chosen-at}
-use Rattle.model.specs.Lists.{entry-of, Line, Credit, Extra, in-line, Entry, entry, offer}
-use Rattle.model.specs.Meaning.{Meaning, Lawful}
-use Rattle.model.specs.Turn.{Way, by-right, by-allowance, by-credit, unclaimed, by-extra, idle, way, sender, front, rest, length-of, popped, charged, owed, repaid, sends, hands-on, takes-up, turned}
-use Rattle.model.specs.Cell.{Cell}
-use Rattle.model.specs.Calls.{decide}
+use Rattle.model.specs.Session.{Frame, Session, able, waiting, some-wait, leads, lags, above-zero}
+use Rattle.model.specs.Table.{Table, at, change, total}
+use Rattle.model.specs.Turn.{Way, by-right, by-allowance, by-credit, unclaimed, by-extra, idle, sender, front, rest, length-of, charged, sends, hands-on, takes-up, turned}
 use Rattle.model.specs.Sound.{Fits}
-use Rattle.model.proofs.Tables.{length-change, at-past, at-change, at-other, total-change, total-same, totalℤ-change, totalℤ-same, first-found, change-same, at-le-total, total-change-le}
-use Rattle.model.proofs.Ledger.{Row, Draft, Book, Ordered, excess, owing}
-use Rattle.model.proofs.Share.{least-reached, active-booked, able-active, able-within}
+use Rattle.model.proofs.Tables.{length-change, at-change, at-other, total-change, total-same, totalℤ-change, totalℤ-same, change-same, total-change-le}
+use Rattle.model.proofs.Ledger.{Row, Draft, excess, owing}
+use Rattle.model.proofs.Share.{active-booked, able-active, able-within}
 use Rattle.model.proofs.Senders.{Rightly, Chosen}
 use Rattle.model.proofs.Departures.{owed-more}
 

@@ -15,7 +15,7 @@ use Rattle.answer.specs.declared.turn.Answer.the-variants.{Done, Turn as Turned
 use Rattle.tariff.specs.Tariff.{link, in-tariff, price-of}
 use Rattle.model.specs.Limits.{places, longest, most-waiting, most-turns, quarters}
 use Rattle.model.specs.Session.{Frame, Session, vacant, fresh, with-virtual-time, with-good, with-active, with-queue}
-use Rattle.model.specs.Table.{Table, at, change, vacancies, booked-total, none-active, chosen}
+use Rattle.model.specs.Table.{at, change, vacancies, booked-total, none-active, chosen}
 use Rattle.model.specs.Lists.{Credit, Extra, offer}
 use Rattle.model.specs.Meaning.{Meaning}
 use Rattle.model.specs.Turn.{Way, by-right, by-allowance, by-credit, unclaimed, by-extra, idle, way-of, sender, length-of, answer-of, turned}

@@ -12,7 +12,6 @@ use Rattle.answer.specs.declared.refusal.Refusal.{Refusal}
 use Rattle.answer.specs.declared.turn.Answer.{Answer}
 use Rattle.answer.specs.declared.turn.Answer.the-variants.{Done, Turn as Turned}
 use Rattle.answer.specs.declared.turn.Sent.{Sent}
-use Rattle.answer.specs.declared.turn.Turn.{Turn}
 use Rattle.model.specs.Session.{Frame, able}
 use Rattle.model.specs.Table.{at}
 use Rattle.model.specs.Meaning.{Meaning}
