@@ -20,7 +20,7 @@ use Rattle.model.specs.Turn.{Way, by-right, by-allowance, by-credit, unclaimed
 use Rattle.model.specs.Departures.{departures}
 use Rattle.model.specs.Cell.{Cell, settled}
 use Rattle.model.specs.Calls.{Call, arrived, Outcome, decide, turn-after, turn-of, accepted, step}
-use Rattle.model.specs.Limits.{places}
+use Rattle.model.specs.Limits.{places, quarters}
 use Rattle.model.specs.History.{sent-frame, sent-from, taken, taken-from, brought-to, bytes, sum-to}
 use Rattle.model.proofs.Tables.{at-change, at-other, change-same}
 use Rattle.model.proofs.Ledger.{Ordered}
@@ -68,7 +68,7 @@ hands i keep n t c q a =
 way-takes : (i keep n : ℕ) (t : Table) (c : ℕ) (w : Way) → Rightly t (at t c) w → at t i .queue ≡ out i t (sender c w) ++ at (turned keep t c n w) i .queue
 unfolding turned
 way-takes i keep n t c by-right r = takes i t c (sends keep 0 n) r (λ s. refl)
-way-takes i keep n t c by-allowance r = takes i t c (sends keep 4 n) r (λ s. refl)
+way-takes i keep n t c by-allowance r = takes i t c (sends keep quarters n) r (λ s. refl)
 way-takes i keep n t c unclaimed r = takes i t c (sends keep 0 n) r (λ s. refl)
 way-takes i keep n t c (by-credit q) r = hands i keep n t c q (r .0)
 way-takes i keep n t c (by-extra q) r = hands i keep n t c q (r .0)

@@ -17,6 +17,7 @@ use borrow.Author.Differences.{ints}
 use Rattle.std.proofs.shelf.Tests.{both-ways, false≢true, and-parts, cond-true, cond-false, eq-eqb, ne-eqb}
 use Rattle.std.specs.shelf.Lists.{All}
 use Rattle.tariff.specs.Tariff.{link}
+use Rattle.model.specs.Limits.{longest, quarters}
 use Rattle.model.specs.Session.{Frame, Session, able, waiting, some-wait, leads, lags, above-zero}
 use Rattle.model.specs.Table.{Table, at, change, total}
 use Rattle.model.specs.Turn.{Way, by-right, by-allowance, by-credit, unclaimed, by-extra, idle, sender, front, rest, length-of, charged, sends, hands-on, takes-up, turned}
@@ -56,7 +57,7 @@ charged-charges keep spent n = record { booked = λ s. refl; rate = λ s. refl; 
 pub hands-on-charges : (keep n : ℕ) → Charges n (hands-on keep n)
 hands-on-charges keep n = record { booked = λ s. refl; rate = λ s. refl; price = λ s. refl; active = λ s. refl; time = λ s. refl; frames = λ s a. a; room = λ s. le-refl (length (s .queue)) }
 
-row-charged : (m n : ℕ) (s : Session) (f : Session → Session) → Charges n f → n ≤ 1536 → s .active ≡ true → s .virtual-time ≡ m → Row m s → Row m (f s)
+row-charged : (m n : ℕ) (s : Session) (f : Session → Session) → Charges n f → n ≤ longest → s .active ≡ true → s .virtual-time ≡ m → Row m s → Row m (f s)
 row-charged m n s f h l a v r = record {
   priced = λ b. ap₂ (λ (x y : ℕ). x * y) (h .rate s) (h .price s) ∙ r .priced (active-booked m s r a);
   bare = λ b. absurd (both-ways (s .booked) (sym (h .booked s) ∙ b) (active-booked m s r a));
@@ -87,7 +88,7 @@ row-at m t c f l rows new j = by (ℕ-discrete c j)
     by (no n) = subst (Row m) (sym (at-other t c j f n)) (rows j)
 
 -- the chosen session is charged for a frame of its by-right, or for an idle turn
-pub solo-draft : (m n : ℕ) (t : Table) (c : ℕ) (f : Session → Session) → Draft m t → Chosen m t c → n ≤ 1536 → Charges n f → ((s : Session) → f s .lag ≡ s .lag) → Draft m (change t c f)
+pub solo-draft : (m n : ℕ) (t : Table) (c : ℕ) (f : Session → Session) → Draft m t → Chosen m t c → n ≤ longest → Charges n f → ((s : Session) → f s .lag ≡ s .lag) → Draft m (change t c f)
 solo-draft m n t c f d k l h g = record {
   size = length-change t c f ∙ d .size;
   rows = row-at m t c f (k .inside) (d .rows) (row-charged m n (at t c) f h l (k .active) (k .level) (d .rows c));
@@ -96,7 +97,7 @@ solo-draft m n t c f d k l h g = record {
 }
 
 -- a turn is handed on
-pub pair-draft : (keep m n : ℕ) (t : Table) (c q : ℕ) → Draft m t → Chosen m t c → n ≤ 1536 → q < length t → (c ≡ q → ⊥) → at t q .active ≡ true → Draft m (change (change t c (hands-on keep n)) q (takes-up n))
+pub pair-draft : (keep m n : ℕ) (t : Table) (c q : ℕ) → Draft m t → Chosen m t c → n ≤ longest → q < length t → (c ≡ q → ⊥) → at t q .active ≡ true → Draft m (change (change t c (hands-on keep n)) q (takes-up n))
 pair-draft keep m n t c q d k l inq apart actq = record {
   size = length-change (change t c (hands-on keep n)) q (takes-up n) ∙ length-change t c (hands-on keep n) ∙ d .size;
   rows = row-at m (change t c (hands-on keep n)) q (takes-up n) inq′ (row-at m t c (hands-on keep n) (k .inside) (d .rows) (row-charged m n (at t c) (hands-on keep n) (hands-on-charges keep n) l (k .active) (k .level) (d .rows c)))
@@ -129,14 +130,14 @@ solo-pays m n t c f d k h =
 
 -- ---- the ways a turn can go
 
-front-fits : (q : List Frame) → some-wait q ≡ true → All Fits q → front q .length ≤ 1536
+front-fits : (q : List Frame) → some-wait q ≡ true → All Fits q → front q .length ≤ longest
 front-fits [] e a = absurd (false≢true e)
 front-fits (f ∷ q) e a = a .0 .1
 
-able-fits : (m : ℕ) (t : Table) (q : ℕ) → Draft m t → able (at t q) ≡ true → length-of t (Some q) ≤ 1536
+able-fits : (m : ℕ) (t : Table) (q : ℕ) → Draft m t → able (at t q) ≡ true → length-of t (Some q) ≤ longest
 able-fits m t q d a = front-fits (at t q .queue) (and-parts (waiting (at t q)) (at t q .good) a .0) (d .rows q .frames)
 
-pub way-fits : (m : ℕ) (t : Table) (c : ℕ) (w : Way) → Draft m t → Rightly t (at t c) w → length-of t (sender c w) ≤ 1536
+pub way-fits : (m : ℕ) (t : Table) (c : ℕ) (w : Way) → Draft m t → Rightly t (at t c) w → length-of t (sender c w) ≤ longest
 way-fits m t c by-right d r = able-fits m t c d r
 way-fits m t c by-allowance d r = able-fits m t c d r
 way-fits m t c unclaimed d r = able-fits m t c d r
@@ -153,10 +154,10 @@ apart-credit t c q r e = not-both (at t c .lag) (subst (λ (j : ℕ). lags (at t
 apart-extra : (t : Table) (c q : ℕ) → Rightly t (at t c) (by-extra q) → c ≡ q → ⊥
 apart-extra t c q r e = both-ways (able (at t c)) (r .1) (subst (λ (j : ℕ). able (at t j) ≡ true) (sym e) (r .0))
 
-pub way-draft : (keep m n : ℕ) (t : Table) (c : ℕ) (w : Way) → Draft m t → Chosen m t c → n ≤ 1536 → Rightly t (at t c) w → Draft m (turned keep t c n w)
+pub way-draft : (keep m n : ℕ) (t : Table) (c : ℕ) (w : Way) → Draft m t → Chosen m t c → n ≤ longest → Rightly t (at t c) w → Draft m (turned keep t c n w)
 unfolding turned
 way-draft keep m n t c by-right d k l r = solo-draft m n t c (sends keep 0 n) d k l (sends-charges keep 0 n) (λ s. refl)
-way-draft keep m n t c by-allowance d k l r = solo-draft m n t c (sends keep 4 n) d k l (sends-charges keep 4 n) (λ s. refl)
+way-draft keep m n t c by-allowance d k l r = solo-draft m n t c (sends keep quarters n) d k l (sends-charges keep quarters n) (λ s. refl)
 way-draft keep m n t c unclaimed d k l r = solo-draft m n t c (sends keep 0 n) d k l (sends-charges keep 0 n) (λ s. refl)
 way-draft keep m n t c idle d k l r = solo-draft m n t c (charged keep 0 n) d k l (charged-charges keep 0 n) (λ s. refl)
 way-draft keep m n t c (by-credit q) d k l r = pair-draft keep m n t c q d k l (able-within t q (r .0)) (apart-credit t c q r) (able-active m (at t q) (d .rows q) (r .0))
@@ -165,7 +166,7 @@ way-draft keep m n t c (by-extra q) d k l r = pair-draft keep m n t c q d k l (a
 pub way-pays : (keep m n : ℕ) (t : Table) (c : ℕ) (w : Way) → Draft m t → Chosen m t c → total (excess m) (turned keep t c n w) ≡ total (excess m) t + n * link
 unfolding turned
 way-pays keep m n t c by-right d k = solo-pays m n t c (sends keep 0 n) d k (sends-charges keep 0 n)
-way-pays keep m n t c by-allowance d k = solo-pays m n t c (sends keep 4 n) d k (sends-charges keep 4 n)
+way-pays keep m n t c by-allowance d k = solo-pays m n t c (sends keep quarters n) d k (sends-charges keep quarters n)
 way-pays keep m n t c unclaimed d k = solo-pays m n t c (sends keep 0 n) d k (sends-charges keep 0 n)
 way-pays keep m n t c idle d k = solo-pays m n t c (charged keep 0 n) d k (charged-charges keep 0 n)
 way-pays keep m n t c (by-credit q) d k = total-same (excess m) (change t c (hands-on keep n)) q (takes-up n) refl ∙ solo-pays m n t c (hands-on keep n) d k (hands-on-charges keep n)
@@ -192,7 +193,7 @@ pair-owes keep n t c q =
 pub way-owes : (keep n : ℕ) (t : Table) (c : ℕ) (w : Way) → owing (turned keep t c n w) ≤ owing t + n
 unfolding turned
 way-owes keep n t c by-right = solo-owes n t c (sends keep 0 n) (λ s. refl)
-way-owes keep n t c by-allowance = solo-owes n t c (sends keep 4 n) (λ s. refl)
+way-owes keep n t c by-allowance = solo-owes n t c (sends keep quarters n) (λ s. refl)
 way-owes keep n t c unclaimed = solo-owes n t c (sends keep 0 n) (λ s. refl)
 way-owes keep n t c idle = solo-owes n t c (charged keep 0 n) (λ s. refl)
 way-owes keep n t c (by-credit q) = pair-owes keep n t c q
@@ -203,7 +204,7 @@ pub way-same : {X : Type 0} (g : Session → X) → ((keep spent n : ℕ) (s : S
     (keep n : ℕ) (t : Table) (c : ℕ) (w : Way) (j : ℕ) → g (at (turned keep t c n w) j) ≡ g (at t j)
 unfolding turned
 way-same g a b d e keep n t c by-right j = change-same g t c (sends keep 0 n) (a keep 0 n) j
-way-same g a b d e keep n t c by-allowance j = change-same g t c (sends keep 4 n) (a keep 4 n) j
+way-same g a b d e keep n t c by-allowance j = change-same g t c (sends keep quarters n) (a keep quarters n) j
 way-same g a b d e keep n t c unclaimed j = change-same g t c (sends keep 0 n) (a keep 0 n) j
 way-same g a b d e keep n t c idle j = change-same g t c (charged keep 0 n) (b keep 0 n) j
 way-same g a b d e keep n t c (by-credit q) j = change-same g (change t c (hands-on keep n)) q (takes-up n) (e n) j ∙ change-same g t c (hands-on keep n) (d keep n) j
@@ -214,7 +215,7 @@ way-same g a b d e keep n t c (by-extra q) j = change-same g (change t c (hands-
 pub record Part (i : ℕ) (t v : Table) (s b : ℕ) : Type 0 where
   pub time : at v i .virtual-time ≡ at t i .virtual-time + at t i .price * b
   pub lag : (at t i .lag +ℤ pos b) ≤ℤ (at v i .lag +ℤ pos s)
-  pub given : (b ≤ s) ⊎ ((leads (at t i) ≡ true) × (b ≤ s + 1536))
+  pub given : (b ≤ s) ⊎ ((leads (at t i) ≡ true) × (b ≤ s + longest))
 
 -- the bytes that session i is named for as the sender
 abbrev pub named : ℕ → ℕ → Option ℕ → ℕ
@@ -235,7 +236,7 @@ solo-part i m n t c f k h g = by (ℕ-discrete c i)
         let lg : at (change t c f) i .lag ≡ at t i .lag = ap (λ (s : Session). s .lag) a in
         (0, record { time = ap (λ (s : Session). s .virtual-time) a ∙ omega arith; lag = omega (arith, ints); given = inl (omega arith) })
 
-pair-part : (i keep m n : ℕ) (t : Table) (c q : ℕ) → Chosen m t c → q < length t → (c ≡ q → ⊥) → n ≤ 1536 → (c ≡ i → leads (at t i) ≡ true) → (b : ℕ) × Part i t (change (change t c (hands-on keep n)) q (takes-up n)) (named i n (Some q)) b
+pair-part : (i keep m n : ℕ) (t : Table) (c q : ℕ) → Chosen m t c → q < length t → (c ≡ q → ⊥) → n ≤ longest → (c ≡ i → leads (at t i) ≡ true) → (b : ℕ) × Part i t (change (change t c (hands-on keep n)) q (takes-up n)) (named i n (Some q)) b
 pair-part i keep m n t c q k inq apart l led = by (ℕ-discrete c i) (ℕ-discrete q i)
   where
     v : Table
@@ -261,10 +262,10 @@ pair-part i keep m n t c q k inq apart l led = by (ℕ-discrete c i) (ℕ-discre
         let lg : at v i .lag ≡ at t i .lag = ap (λ (s : Session). s .lag) a in
         (0, record { time = ap (λ (s : Session). s .virtual-time) a ∙ omega arith; lag = omega (arith, ints); given = inl (omega arith) })
 
-pub way-part : (i keep m n : ℕ) (t : Table) (c : ℕ) (w : Way) → Chosen m t c → n ≤ 1536 → Rightly t (at t c) w → able (at t i) ≡ true → (b : ℕ) × Part i t (turned keep t c n w) (named i n (sender c w)) b
+pub way-part : (i keep m n : ℕ) (t : Table) (c : ℕ) (w : Way) → Chosen m t c → n ≤ longest → Rightly t (at t c) w → able (at t i) ≡ true → (b : ℕ) × Part i t (turned keep t c n w) (named i n (sender c w)) b
 unfolding turned
 way-part i keep m n t c by-right k l r a = solo-part i m n t c (sends keep 0 n) k (sends-charges keep 0 n) (λ s. refl)
-way-part i keep m n t c by-allowance k l r a = solo-part i m n t c (sends keep 4 n) k (sends-charges keep 4 n) (λ s. refl)
+way-part i keep m n t c by-allowance k l r a = solo-part i m n t c (sends keep quarters n) k (sends-charges keep quarters n) (λ s. refl)
 way-part i keep m n t c unclaimed k l r a = solo-part i m n t c (sends keep 0 n) k (sends-charges keep 0 n) (λ s. refl)
 way-part i keep m n t c idle k l r a = absurd (both-ways (able (at t i)) (r i) a)
 way-part i keep m n t c (by-credit q) k l r a = pair-part i keep m n t c q k (able-within t q (r .0)) (apart-credit t c q r) l (λ e. subst (λ (j : ℕ). able (at t j) ≡ true → leads (at t j) ≡ true) e (r .2) a)
