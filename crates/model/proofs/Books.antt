@@ -72,7 +72,8 @@ new-within keep c k = record { keep = k; mark = omega arith; rows = λ j. subst 
 
 -- ---- the layers of the proof and the books say the same
 
-pub row-status : (m : ℕ) (s : Session) → Row m s → (s .active ≡ true → (waiting s || leads s) ≡ true) → s .active ≡ (waiting s || leads s)
+pub row-status : (m : ℕ) (s : Session) → Row m s → (s .active ≡ true → (waiting s || leads s) ≡ true) →
+    s .active ≡ (waiting s || leads s)
 row-status m s r b = by (cases-bool (s .active))
   where
     by : (s .active ≡ true) ⊎ (s .active ≡ false) → s .active ≡ (waiting s || leads s)
@@ -116,7 +117,8 @@ module _ {C : Type 0} (x : Cell C) where
     modest = w .keep;
   }
 
-  least-mark : Sound x → (j : ℕ) → at (x .table) j .active ≡ true → (least (x .table) ≡ Some (x .mark)) × (x .mark ≤ at (x .table) j .virtual-time)
+  least-mark : Sound x → (j : ℕ) → at (x .table) j .active ≡ true →
+      (least (x .table) ≡ Some (x .mark)) × (x .mark ≤ at (x .table) j .virtual-time)
   least-mark b j a =
       let r = least-some (x .table) j a in
       let e = b .lowest (r .0) (r .1) in
@@ -152,7 +154,8 @@ module _ {C : Type 0} (x : Cell C) where
 pub new-sound : {C : Type 0} (keep : ℕ) (c : C) → keep ≤ quarters → Sound (new keep c)
 new-sound keep c k = sound-from (new keep c) (new-ordered keep c) (new-within keep c k)
 
-pub step-sound : {C : Type 0} (M : Meaning C) → Lawful M → (x : Cell C) (call : Call) → Sound x → Sound (step M x call .cell)
+pub step-sound : {C : Type 0} (M : Meaning C) → Lawful M → (x : Cell C) (call : Call) → Sound x →
+    Sound (step M x call .cell)
 step-sound M law x call b =
     sound-from (step M x call .cell) (step-good M law x call (ordered-of x b) .ordered) (step-within M law x call (ordered-of x b) (within-of x b))
 

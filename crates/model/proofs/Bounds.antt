@@ -40,7 +40,8 @@ unfolding at greatest
 greatest-low b [] h = omega arith
 greatest-low b (s ∷ t) h = omega (arith, h 0 .0, greatest-low b t (λ j. h (suc j)))
 
-mark-from-low : (b m : ℕ) (u : Table) (o : Option ℕ) (e : Bool) → m ≤ b → ((j : ℕ) → Low b (at u j)) → least u ≡ o → mark-from o e (greatest u) m ≤ b
+mark-from-low : (b m : ℕ) (u : Table) (o : Option ℕ) (e : Bool) → m ≤ b → ((j : ℕ) → Low b (at u j)) → least u ≡ o →
+    mark-from o e (greatest u) m ≤ b
 mark-from-low b m u (Some v) e l h f = let r = least-reached u v f in omega (arith, h (r .0) .0, r .3)
 mark-from-low b m u None true l h f = l
 mark-from-low b m u None false l h f = greatest-low b u h
@@ -71,7 +72,8 @@ dear m n s r a l = by (s .rate) (r .priced (active-booked m s r a))
         let p : s .price ≤ link = omega arith in
         omega (arith, mul-le-mul l p)
 
-charged-low : (keep spent n b : ℕ) (s : Session) → keep ≤ quarters → spent ≤ quarters → n * s .price ≤ dearest → Low b s → Low (b + dearest) (charged keep spent n s)
+charged-low : (keep spent n b : ℕ) (s : Session) → keep ≤ quarters → spent ≤ quarters → n * s .price ≤ dearest →
+    Low b s → Low (b + dearest) (charged keep spent n s)
 charged-low keep spent n b s k p d h = (
   omega (arith, h .0, d),
   cond-both (leads s) (s .allowance +ℤ pos (keep * (n * s .price)) -ℤ pos (spent * (n * s .price))) (s .allowance) (λ z. natAbs z ≤ quarters * (b + dearest))
@@ -88,7 +90,8 @@ low-more b s h = omega (arith, h .0, h .1)
 
 module _ (keep n b : ℕ) (t : Table) (c : ℕ) (k : keep ≤ quarters) (d : n * at t c .price ≤ dearest) (h : (j : ℕ) → Low b (at t j)) where
   -- the chosen session is charged
-  one-low : (f : Session → Session) → Low (b + dearest) (f (at t c)) → (j : ℕ) → Low (b + dearest) (at (change t c f) j)
+  one-low : (f : Session → Session) → Low (b + dearest) (f (at t c)) → (j : ℕ) →
+      Low (b + dearest) (at (change t c f) j)
   one-low f g = each-change (Low (b + dearest)) t c f (λ j. low-more b (at t j) (h j)) g
 
   charge-low : (spent : ℕ) → spent ≤ quarters → Low (b + dearest) (charged keep spent n (at t c))
@@ -124,15 +127,18 @@ pub record Within {C : Type 0} (x : Cell C) : Type 0 where
   pub rows : (j : ℕ) → Low (dearest * x .turns) (at (x .table) j)
 
 module _ {C : Type 0} (M : Meaning C) (law : Lawful M) where
-  settled-within : (x : Cell C) (u : Table) (n : ℕ) (c : C) → x .keep ≤ quarters → x .mark ≤ dearest * n → ((j : ℕ) → Low (dearest * n) (at u j)) → Within (settled M x u n c)
+  settled-within : (x : Cell C) (u : Table) (n : ℕ) (c : C) → x .keep ≤ quarters → x .mark ≤ dearest * n →
+      ((j : ℕ) → Low (dearest * n) (at u j)) → Within (settled M x u n c)
   unfolding settled
   settled-within x u n c k m h = record { keep = k; mark = mark-low (dearest * n) (x .mark) (x .table) u m h; rows = h }
 
   -- a call that is no turn
-  calm-within : (x : Cell C) (p : ℕ) (f : Session → Session) (c : C) → Within x → Low (dearest * x .turns) (f (at (x .table) p)) → Within (settled M x (change (x .table) p f) (x .turns) c)
+  calm-within : (x : Cell C) (p : ℕ) (f : Session → Session) (c : C) → Within x →
+      Low (dearest * x .turns) (f (at (x .table) p)) → Within (settled M x (change (x .table) p f) (x .turns) c)
   calm-within x p f c w h = settled-within x (change (x .table) p f) (x .turns) c (w .keep) (w .mark) (each-change (Low (dearest * x .turns)) (x .table) p f (w .rows) h)
 
-  turn-within : (x : Cell C) (c : ℕ) → Ordered x → Within x → chosen (x .table) ≡ Some c → Within (turn-of M x c .cell)
+  turn-within : (x : Cell C) (c : ℕ) → Ordered x → Within x → chosen (x .table) ≡ Some c →
+      Within (turn-of M x c .cell)
   unfolding turn-after
   turn-within x c s w e =
       let k = chosen-is (x .mark) (x .table) c (s .book) e in

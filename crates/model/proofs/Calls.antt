@@ -40,7 +40,8 @@ unfolding bytes
 sent-less t None = omega arith
 sent-less t (Some q) = omega arith
 
-sent-named : (i : ℕ) (t : Table) (o : Option ℕ) → named i (length-of t o) o ≡ bytes (sent-from i (sent-of t o) (length-of t o))
+sent-named : (i : ℕ) (t : Table) (o : Option ℕ) →
+    named i (length-of t o) o ≡ bytes (sent-from i (sent-of t o) (length-of t o))
 unfolding bytes
 sent-named i t None = refl
 sent-named i t (Some q) = by (eqb q i) (front (at t q .queue))
@@ -58,13 +59,15 @@ module _ {C : Type 0} (M : Meaning C) (law : Lawful M) where
   pub record Good (x : Cell C) (o : Outcome M) : Type 0 where
     pub ordered : Ordered (o .cell)
     pub rises : x .mark ≤ o .cell .mark
-    pub move : (i : ℕ) → able (at (x .table) i) ≡ true → able (at (o .cell .table) i) ≡ true → (b : ℕ) × Move i x (o .cell) (bytes (taken (o .answer))) (bytes (taken-from i (o .answer))) b
+    pub move : (i : ℕ) → able (at (x .table) i) ≡ true → able (at (o .cell .table) i) ≡ true →
+        (b : ℕ) × Move i x (o .cell) (bytes (taken (o .answer))) (bytes (taken-from i (o .answer))) b
 
   refused-good : (x : Cell C) (why : Refusal) → Ordered x → Good x (record { cell = x; answer = Err why })
   unfolding bytes
   refused-good x why s = record { ordered = s; rises = le-refl (x .mark); move = λ i a a′. (0, stands i x) }
 
-  calm-good : (x : Cell C) (p : ℕ) (f : Session → Session) (c : C) → Ordered x → p < length (x .table) → Calm (x .mark) (at (x .table) p) (f (at (x .table) p)) →
+  calm-good : (x : Cell C) (p : ℕ) (f : Session → Session) (c : C) → Ordered x → p < length (x .table) →
+      Calm (x .mark) (at (x .table) p) (f (at (x .table) p)) →
       booked-total (change (x .table) p f) ≤ link → Good x (changed M x p f c)
   unfolding settled bytes
   calm-good x p f c s inside k few = record {
@@ -88,7 +91,8 @@ module _ {C : Type 0} (M : Meaning C) (law : Lawful M) where
         );
   }
 
-  turn-good : (x : Cell C) (c : ℕ) (w : Way) → Ordered x → x .turns < most-turns → Chosen (x .mark) (x .table) c → Rightly (x .table) (at (x .table) c) w →
+  turn-good : (x : Cell C) (c : ℕ) (w : Way) → Ordered x → x .turns < most-turns → Chosen (x .mark) (x .table) c →
+      Rightly (x .table) (at (x .table) c) w →
       Good x (record { cell = turn-after M x c w (length-of (x .table) (sender c w)); answer = Ok (Turned (answer-of (x .table) c w)) })
   unfolding turn-after settled
   turn-good x c w s more k r = record {

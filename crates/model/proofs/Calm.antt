@@ -34,7 +34,8 @@ pub record Calm (m : ℕ) (s s′ : Session) : Type 0 where
 
 module _ (m : ℕ) (t : Table) (p : ℕ) (f : Session → Session) (inside : p < length t) (b : Book m t) (k : Calm m (at t p) (f (at t p))) (few : booked-total (change t p f) ≤ link) where
   -- what holds of each place as it was, and of the one that is changed, holds after
-  after-change : (P : ℕ → Session → Type 0) → P p (f (at t p)) → ((j : ℕ) → P j (at t j)) → (j : ℕ) → P j (at (change t p f) j)
+  after-change : (P : ℕ → Session → Type 0) → P p (f (at t p)) → ((j : ℕ) → P j (at t j)) → (j : ℕ) →
+      P j (at (change t p f) j)
   after-change P new old j = by (ℕ-discrete p j)
     where
       by : Dec (p ≡ j) → P j (at (change t p f) j)
@@ -64,12 +65,14 @@ module _ (m : ℕ) (t : Table) (p : ℕ) (f : Session → Session) (inside : p <
       let e = total-same (excess m) t p f (k .same) in
       omega arith
 
-  pub calm-kept : (i : ℕ) → able (at t i) ≡ true → (at (change t p f) i .price ≡ at t i .price) × (at (change t p f) i .virtual-time ≡ at t i .virtual-time) × (at (change t p f) i .lag ≡ at t i .lag)
+  pub calm-kept : (i : ℕ) → able (at t i) ≡ true →
+      (at (change t p f) i .price ≡ at t i .price) × (at (change t p f) i .virtual-time ≡ at t i .virtual-time) × (at (change t p f) i .lag ≡ at t i .lag)
   calm-kept = after-change (λ j s. able (at t j) ≡ true → (s .price ≡ at t j .price) × (s .virtual-time ≡ at t j .virtual-time) × (s .lag ≡ at t j .lag)) (λ a. (k .kept a .0, k .kept a .1, k .lag)) (λ j a. (refl, refl, refl))
 
 -- ---- the calls that are no turn
 
-pub open-calm : (m r : ℕ) (s : Session) → Row m s → s .booked ≡ false → in-tariff r ≡ true → Calm m s (fresh r (price-of r))
+pub open-calm : (m r : ℕ) (s : Session) → Row m s → s .booked ≡ false → in-tariff r ≡ true →
+    Calm m s (fresh r (price-of r))
 open-calm m r s row b e = record {
   row = record {
     priced = λ _. factored r e;
@@ -130,7 +133,8 @@ came m s r = by (cases-bool (s .active))
         let e = cond-false (s .active) (s .virtual-time) (max (s .virtual-time) m) a in
         (omega arith, omega (arith, r .near), omega arith, λ b. absurd (both-ways (s .active) a b))
 
-pub arrive-calm : (m : ℕ) (f : Frame) (s : Session) → Row m s → s .booked ≡ true → Fits f → length (s .queue) < most-waiting → Calm m s (arrived m f s)
+pub arrive-calm : (m : ℕ) (f : Frame) (s : Session) → Row m s → s .booked ≡ true → Fits f →
+    length (s .queue) < most-waiting → Calm m s (arrived m f s)
 arrive-calm m f s row b fits more =
     let v = came m s row in
     record {
@@ -150,7 +154,8 @@ arrive-calm m f s row b fits more =
       kept = λ a. (refl, v .3 (able-active m s row a));
     }
 
-pub report-calm : (m : ℕ) (b : Bool) (s : Session) → Row m s → s .booked ≡ true → (s .active ≡ true → (waiting s || leads s) ≡ true) → Calm m s (with-good b s)
+pub report-calm : (m : ℕ) (b : Bool) (s : Session) → Row m s → s .booked ≡ true →
+    (s .active ≡ true → (waiting s || leads s) ≡ true) → Calm m s (with-good b s)
 report-calm m b s row opened busy = record {
   row = record {
     priced = row .priced;

@@ -25,7 +25,8 @@ passed : (cs : List (Bool × Refusal)) → first-of cs ≡ None → All (λ c. c
 passed [] e = tt
 passed (c ∷ cs) e = by (c .0) refl e (λ g. passed cs g)
   where
-    by : (b : Bool) → c .0 ≡ b → cond b (Some (c .1)) (first-of cs) ≡ None → (first-of cs ≡ None → All (λ c. c .0 ≡ false) cs) → (c .0 ≡ false) × All (λ c. c .0 ≡ false) cs
+    by : (b : Bool) → c .0 ≡ b → cond b (Some (c .1)) (first-of cs) ≡ None →
+        (first-of cs ≡ None → All (λ c. c .0 ≡ false) cs) → (c .0 ≡ false) × All (λ c. c .0 ≡ false) cs
     by true f g ih = let z : _≡_ {A = ℕ} 0 1 = cc in absurd (omega arith)
     by false f g ih = (f, ih g)
 

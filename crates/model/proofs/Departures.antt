@@ -46,19 +46,22 @@ no-part : (l r c a : ℕ) → a ≡ 0 → l * (c + a) / r - l * c / r ≡ 0
 no-part l r c a e = ap (λ (a : ℕ). l * (c + a) / r - l * c / r) e ∙ ap (λ (k : ℕ). l * k / r - l * c / r) (add-zero c) ∙ sub-self (l * c / r)
 
 -- each place gets a part, and one that is not active gets None
-pub share-at : (l r c : ℕ) (t : Table) (j : ℕ) → (n : ℕ) × (at (share l r c t) j ≡ owed n (at t j)) × (at t j .active ≡ false → n ≡ 0)
+pub share-at : (l r c : ℕ) (t : Table) (j : ℕ) →
+    (n : ℕ) × (at (share l r c t) j ≡ owed n (at t j)) × (at t j .active ≡ false → n ≡ 0)
 unfolding at share
 share-at l r c [] j = (0, refl, λ e. refl)
 share-at l r c (s ∷ t) zero = (l * (c + active-rate s) / r - l * c / r, refl, λ e. no-part l r c (active-rate s) (cond-false (s .active) (s .rate) 0 e))
 share-at l r c (s ∷ t) (suc j) = share-at l r (c + active-rate s) t j
 
-total-share : (g : Session → ℕ) → ((n : ℕ) (s : Session) → g (owed n s) ≡ g s) → (l r c : ℕ) (t : Table) → total g (share l r c t) ≡ total g t
+total-share : (g : Session → ℕ) → ((n : ℕ) (s : Session) → g (owed n s) ≡ g s) → (l r c : ℕ) (t : Table) →
+    total g (share l r c t) ≡ total g t
 unfolding share total
 total-share g h l r c [] = refl
 total-share g h l r c (s ∷ t) = omega (arith, h (l * (c + active-rate s) / r - l * c / r) s, total-share g h l r (c + active-rate s) t)
 
 -- the parts add up
-pub parts : (l r c e : ℕ) (t : Table) → c + total active-rate t ≡ e → totalℤ (λ s. s .lag) (share l r c t) ≡ totalℤ (λ s. s .lag) t +ℤ pos (l * e / r - l * c / r)
+pub parts : (l r c e : ℕ) (t : Table) → c + total active-rate t ≡ e →
+    totalℤ (λ s. s .lag) (share l r c t) ≡ totalℤ (λ s. s .lag) t +ℤ pos (l * e / r - l * c / r)
 unfolding share total totalℤ
 parts l r c e [] h =
     let z : l * e / r - l * c / r ≡ 0 = ap (λ (k : ℕ). l * k / r - l * c / r) (sym h ∙ add-zero c) ∙ sub-self (l * c / r) in
@@ -69,11 +72,13 @@ parts l r c e (s ∷ t) h =
     let high : l * (c + active-rate s) / r ≤ l * e / r = div-mono r (mul-le-mul-left l (omega arith)) in
     joined (s .lag) (totalℤ (λ s. s .lag) t) (totalℤ (λ s. s .lag) (share l r (c + active-rate s) t)) (l * c / r) (l * (c + active-rate s) / r) (l * e / r) f low high
   where
-    joined : (a b d : ℤ) (x y z : ℕ) → d ≡ b +ℤ pos (z - y) → x ≤ y → y ≤ z → (a +ℤ pos (y - x)) +ℤ d ≡ (a +ℤ b) +ℤ pos (z - x)
+    joined : (a b d : ℤ) (x y z : ℕ) → d ≡ b +ℤ pos (z - y) → x ≤ y → y ≤ z →
+        (a +ℤ pos (y - x)) +ℤ d ≡ (a +ℤ b) +ℤ pos (z - x)
     joined a b d x y z f low high = omega (arith, ints)
 
 -- and no more is owed after than before, but for what was shared
-parts-owed : (l r c e : ℕ) (t : Table) → c + total active-rate t ≡ e → owing (share l r c t) ≤ owing t + (l * e / r - l * c / r)
+parts-owed : (l r c e : ℕ) (t : Table) → c + total active-rate t ≡ e →
+    owing (share l r c t) ≤ owing t + (l * e / r - l * c / r)
 unfolding share total
 parts-owed l r c e [] h = omega arith
 parts-owed l r c e (s ∷ t) h =
@@ -215,7 +220,8 @@ module _ (t : Table) (k : ℕ) (inside : k < length t) (goes : departing (at t k
       counted = λ j. let r = given j in subst (λ (s : Session). s .active ≡ true → 0 < s .rate) (sym (r .1)) (counted-less j);
     }
       where
-        given : (j : ℕ) → (n : ℕ) × (at (share (lost t k) (rates-left t k) 0 (less t k)) j ≡ owed n (at (less t k) j)) × (at (less t k) j .active ≡ false → n ≡ 0)
+        given : (j : ℕ) →
+            (n : ℕ) × (at (share (lost t k) (rates-left t k) 0 (less t k)) j ≡ owed n (at (less t k) j)) × (at (less t k) j .active ≡ false → n ≡ 0)
         given j = share-at (lost t k) (rates-left t k) 0 (less t k) j
 
   departed-draft : (m : ℕ) → Draft m t → Draft m (departed t (Some k))
@@ -247,13 +253,15 @@ module _ (t : Table) (k : ℕ) (inside : k < length t) (goes : departing (at t k
       (r .0, r .1 ∙ ap (owed (r .0)) (at-other t k j gone (λ e. both-ways (waiting (at t j)) (subst (λ (j : ℕ). waiting (at t j) ≡ false) e (departs (at t k) goes .1)) w)))
 
   -- what does not read lag or status
-  departed-same : {X : Type 0} (g : Session → X) → ((n : ℕ) (s : Session) → g (owed n s) ≡ g s) → ((s : Session) → g (gone s) ≡ g s) → (j : ℕ) → g (at (departed t (Some k)) j) ≡ g (at t j)
+  departed-same : {X : Type 0} (g : Session → X) → ((n : ℕ) (s : Session) → g (owed n s) ≡ g s) →
+      ((s : Session) → g (gone s) ≡ g s) → (j : ℕ) → g (at (departed t (Some k)) j) ≡ g (at t j)
   unfolding departed
   departed-same g h l j =
       let r = share-at (lost t k) (rates-left t k) 0 (less t k) j in
       ap g (r .1) ∙ h (r .0) (at (less t k) j) ∙ change-same g t k gone l j
 
-  departed-total : (g : Session → ℕ) → ((n : ℕ) (s : Session) → g (owed n s) ≡ g s) → ((s : Session) → g (gone s) ≡ g s) → total g (departed t (Some k)) ≡ total g t
+  departed-total : (g : Session → ℕ) → ((n : ℕ) (s : Session) → g (owed n s) ≡ g s) →
+      ((s : Session) → g (gone s) ≡ g s) → total g (departed t (Some k)) ≡ total g t
   unfolding departed
   departed-total g h l = total-share g h (lost t k) (rates-left t k) 0 (less t k) ∙ total-same g t k gone (l (at t k))
 
@@ -265,10 +273,12 @@ once-draft m t None e d = d
 once-draft m t (Some k) e d = let f = first-found departing t k e in departed-draft t k (f .0) (f .1) m d
 
 -- the same in the midst of a turn
-pub once-midway : (most : ℕ) (t : Table) (k : ℕ) → first departing t ≡ Some k → Midway most t → Midway most (departed t (Some k))
+pub once-midway : (most : ℕ) (t : Table) (k : ℕ) → first departing t ≡ Some k → Midway most t →
+    Midway most (departed t (Some k))
 once-midway most t k e d = let f = first-found departing t k e in departed-midway t k (f .0) (f .1) most d
 
-pub once-fewer : (t : Table) (k : ℕ) → first departing t ≡ Some k → active-count (departed t (Some k)) + 1 ≡ active-count t
+pub once-fewer : (t : Table) (k : ℕ) → first departing t ≡ Some k →
+    active-count (departed t (Some k)) + 1 ≡ active-count t
 once-fewer t k e = let f = first-found departing t k e in departed-count t k (f .0) (f .1)
 
 pub depart-draft : (m n : ℕ) (t : Table) → Draft m t → Draft m (depart n t)
@@ -276,22 +286,27 @@ unfolding depart
 depart-draft m zero t d = d
 depart-draft m (suc n) t d = depart-draft m n (departed t (first departing t)) (once-draft m t (first departing t) refl d)
 
-once-same : {X : Type 0} (g : Session → X) → ((n : ℕ) (s : Session) → g (owed n s) ≡ g s) → ((s : Session) → g (gone s) ≡ g s) → (t : Table) (o : Option ℕ) → first departing t ≡ o → (j : ℕ) → g (at (departed t o) j) ≡ g (at t j)
+once-same : {X : Type 0} (g : Session → X) → ((n : ℕ) (s : Session) → g (owed n s) ≡ g s) →
+    ((s : Session) → g (gone s) ≡ g s) → (t : Table) (o : Option ℕ) → first departing t ≡ o → (j : ℕ) →
+    g (at (departed t o) j) ≡ g (at t j)
 unfolding departed
 once-same g h l t None e j = refl
 once-same g h l t (Some k) e j = let f = first-found departing t k e in departed-same t k (f .0) (f .1) g h l j
 
-pub depart-same : {X : Type 0} (g : Session → X) → ((n : ℕ) (s : Session) → g (owed n s) ≡ g s) → ((s : Session) → g (gone s) ≡ g s) → (n : ℕ) (t : Table) (j : ℕ) → g (at (depart n t) j) ≡ g (at t j)
+pub depart-same : {X : Type 0} (g : Session → X) → ((n : ℕ) (s : Session) → g (owed n s) ≡ g s) →
+    ((s : Session) → g (gone s) ≡ g s) → (n : ℕ) (t : Table) (j : ℕ) → g (at (depart n t) j) ≡ g (at t j)
 unfolding depart
 depart-same g h l zero t j = refl
 depart-same g h l (suc n) t j = depart-same g h l n (departed t (first departing t)) j ∙ once-same g h l t (first departing t) refl j
 
-once-total : (g : Session → ℕ) → ((n : ℕ) (s : Session) → g (owed n s) ≡ g s) → ((s : Session) → g (gone s) ≡ g s) → (t : Table) (o : Option ℕ) → first departing t ≡ o → total g (departed t o) ≡ total g t
+once-total : (g : Session → ℕ) → ((n : ℕ) (s : Session) → g (owed n s) ≡ g s) → ((s : Session) → g (gone s) ≡ g s) →
+    (t : Table) (o : Option ℕ) → first departing t ≡ o → total g (departed t o) ≡ total g t
 unfolding departed
 once-total g h l t None e = refl
 once-total g h l t (Some k) e = let f = first-found departing t k e in departed-total t k (f .0) (f .1) g h l
 
-pub depart-total : (g : Session → ℕ) → ((n : ℕ) (s : Session) → g (owed n s) ≡ g s) → ((s : Session) → g (gone s) ≡ g s) → (n : ℕ) (t : Table) → total g (depart n t) ≡ total g t
+pub depart-total : (g : Session → ℕ) → ((n : ℕ) (s : Session) → g (owed n s) ≡ g s) →
+    ((s : Session) → g (gone s) ≡ g s) → (n : ℕ) (t : Table) → total g (depart n t) ≡ total g t
 unfolding depart
 depart-total g h l zero t = refl
 depart-total g h l (suc n) t = depart-total g h l n (departed t (first departing t)) ∙ once-total g h l t (first departing t) refl
@@ -307,7 +322,8 @@ depart-owes zero t = le-refl _
 depart-owes (suc n) t = le-trans (depart-owes n (departed t (first departing t))) (once-owes t (first departing t) refl)
 
 -- a session with a frame keeps its lag or gets more
-once-waits : (t : Table) (o : Option ℕ) → first departing t ≡ o → (j : ℕ) → waiting (at t j) ≡ true → (at t j .lag) ≤ℤ (at (departed t o) j .lag)
+once-waits : (t : Table) (o : Option ℕ) → first departing t ≡ o → (j : ℕ) → waiting (at t j) ≡ true →
+    (at t j .lag) ≤ℤ (at (departed t o) j .lag)
 unfolding departed
 once-waits t None e j w = omega (arith, ints)
 once-waits t (Some k) e j w =
@@ -344,7 +360,9 @@ depart-ends zero t h = first-never departing t (λ j. quiet j)
         by (inr e) = ap (λ (b : Bool). b && (not (waiting (at t j)) && not (leads (at t j)))) e
 depart-ends (suc n) t h = by (first departing t) refl (λ u g. depart-ends n u g)
   where
-    by : (o : Option ℕ) → first departing t ≡ o → ((u : Table) → active-count u ≤ n → first departing (depart n u) ≡ None) → first departing (depart n (departed t (first departing t))) ≡ None
+    by : (o : Option ℕ) → first departing t ≡ o →
+        ((u : Table) → active-count u ≤ n → first departing (depart n u) ≡ None) →
+        first departing (depart n (departed t (first departing t))) ≡ None
     by None e ih = ap (λ (o : Option ℕ). first departing (depart n (departed t o))) e ∙ ap (first departing) (depart-still n t e) ∙ e
     by (Some k) e ih =
         let f = first-found departing t k e in
@@ -364,5 +382,6 @@ pub departures-end : (t : Table) (j : ℕ) → departing (at (departures t) j) �
 unfolding departures
 departures-end t j = first-none departing (depart (active-count t) t) refl (depart-ends (active-count t) t (le-refl (active-count t))) j
 
-pub departures-busy : (t : Table) (j : ℕ) → at (departures t) j .active ≡ true → (waiting (at (departures t) j) || leads (at (departures t) j)) ≡ true
+pub departures-busy : (t : Table) (j : ℕ) → at (departures t) j .active ≡ true →
+    (waiting (at (departures t) j) || leads (at (departures t) j)) ≡ true
 departures-busy t j a = stays-busy (at (departures t) j) (departures-end t j) a

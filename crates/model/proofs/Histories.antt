@@ -33,6 +33,7 @@ use Rattle.model.proofs.Ledger.{Ordered}
 use Rattle.model.proofs.Share.{share-from}
 use Rattle.model.proofs.Chosen.{chosen-next}
 use Rattle.model.proofs.Senders.{Rightly, decides}
+use Rattle.model.proofs.Turn.{each-way}
 use Rattle.model.proofs.Cases.{each-case}
 use Rattle.model.proofs.Calls.{step-good}
 use Rattle.model.proofs.Bounds.{Within, step-within}
@@ -69,15 +70,15 @@ not-idle k h e = absurd (false≢true (sym h ∙ ap idles e))
 
 -- what the way of a turn says of a sender
 way-idles : (t : Table) (c : ℕ) (w : Way) → Rightly t (at t c) w → (sent-of t (sender c w) ≡ None) ↔ ((i : ℕ) → able (at t i) ≡ false)
-way-idles t c by-right r = (λ e. no-sender _ e, λ h. absurd (both-ways (able (at t c)) (h c) r))
-way-idles t c by-allowance r = (λ e. no-sender _ e, λ h. absurd (both-ways (able (at t c)) (h c) r))
-way-idles t c unclaimed r = (λ e. no-sender _ e, λ h. absurd (both-ways (able (at t c)) (h c) r))
-way-idles t c (by-credit q) r = (λ e. no-sender _ e, λ h. absurd (both-ways (able (at t q)) (h q) (r .0)))
-way-idles t c (by-extra q) r = (λ e. no-sender _ e, λ h. absurd (both-ways (able (at t q)) (h q) (r .0)))
-way-idles t c idle r = (λ e. r, λ h. refl)
+way-idles t c w r =
+    each-way 0 0 t c (λ o _. (sent-of t o ≡ None) ↔ ((i : ℕ) → able (at t i) ≡ false))
+    (λ _ _ a. (λ e. no-sender _ e, λ h. absurd (both-ways (able (at t c)) (h c) a)))
+    (λ q p. (λ e. no-sender _ e, λ h. absurd (both-ways (able (at t q)) (h q) (p .ready))))
+    (λ h. (λ e. h, λ _. refl)) w r
 
 -- kind and length tell whether anybody sent
-way-says : (t : Table) (c : ℕ) (w : Way) → ((kind w ≡ Idle) ↔ (sent-of t (sender c w) ≡ None)) × (sent-of t (sender c w) ≡ None → length-of t (sender c w) ≡ idle-length)
+way-says : (t : Table) (c : ℕ) (w : Way) →
+    ((kind w ≡ Idle) ↔ (sent-of t (sender c w) ≡ None)) × (sent-of t (sender c w) ≡ None → length-of t (sender c w) ≡ idle-length)
 way-says t c by-right = ((λ e. not-idle Normal refl e, λ e. no-sender _ e), λ e. no-sender _ e)
 way-says t c by-allowance = ((λ e. not-idle Normal refl e, λ e. no-sender _ e), λ e. no-sender _ e)
 way-says t c unclaimed = ((λ e. not-idle Kept refl e, λ e. no-sender _ e), λ e. no-sender _ e)
@@ -89,7 +90,8 @@ module _ {C : Type 0} (M : Meaning C) (law : Lawful M) where
   -- ---- one call
 
   -- what holds of the turn of whoever is chosen holds of an accepted turn
-  turn-case : (x : Cell C) (P : Turn → Type 0) → Ordered x → ((c : ℕ) → chosen (x .table) ≡ Some c → P (answer-of (x .table) c (decide M x c))) →
+  turn-case : (x : Cell C) (P : Turn → Type 0) → Ordered x →
+      ((c : ℕ) → chosen (x .table) ≡ Some c → P (answer-of (x .table) c (decide M x c))) →
       (a : Turn) → step M x turn .answer ≡ Ok (Turned a) → P a
   unfolding accepted
   turn-case x P s h =
@@ -110,7 +112,8 @@ module _ {C : Type 0} (M : Meaning C) (law : Lawful M) where
       let f = subst (λ (r : Reply). at (x .table) i .queue ++ brought-to i turn r ≡ taken-from i r ++ at (step M x turn .cell .table) i .queue) e q in
       sym (append-nil (at (x .table) i .queue)) ∙ f
 
-  sent-takes : (x : Cell C) (a : Turn) (s : Sent) (i : ℕ) → Ordered x → step M x turn .answer ≡ Ok (Turned a) → a .sent ≡ Some s →
+  sent-takes : (x : Cell C) (a : Turn) (s : Sent) (i : ℕ) → Ordered x → step M x turn .answer ≡ Ok (Turned a) →
+      a .sent ≡ Some s →
       at (x .table) i .queue ≡ cond (eqb (s .sender) i) (frame-of s (a .length) ∷ []) [] ++ at (step M x turn .cell .table) i .queue
   sent-takes x a s i o e f = turn-takes x a i o e ∙ ap (λ (r : Option Sent). sent-from i r (a .length) ++ at (step M x turn .cell .table) i .queue) f
 
@@ -215,7 +218,8 @@ module _ {C : Type 0} (M : Meaning C) (law : Lawful M) where
   pub says : Sends-what-it-says M
   says = (says-who, says-idle, queues)
 
-  counts-at : (i : ℕ) (x : Cell C) (ks : List Call) → Ordered x → bytes (at (x .table) i .queue) + brought M i x ks ≡ sent-by M i x ks + bytes (at (after M x ks .table) i .queue)
+  counts-at : (i : ℕ) (x : Cell C) (ks : List Call) → Ordered x →
+      bytes (at (x .table) i .queue) + brought M i x ks ≡ sent-by M i x ks + bytes (at (after M x ks .table) i .queue)
   unfolding after sent-by brought
   counts-at i x [] s = omega arith
   counts-at i x (k ∷ ks) s = omega (arith, step-counts M law x k i s, counts-at i (step M x k .cell) ks (step-good M law x k s .ordered))

@@ -58,7 +58,8 @@ neither true true e f = e
 neither true false e f = f
 neither false l e f = refl
 
-rightly : (t : Table) (s : Session) (a l b : Bool) (p q : Option ℕ) → able s ≡ a → leads s ≡ l → Picks-offered (offer Credit t) p → Picks-offered (offer Extra t) q → Rightly t s (way a l b p q)
+rightly : (t : Table) (s : Session) (a l b : Bool) (p q : Option ℕ) → able s ≡ a → leads s ≡ l →
+    Picks-offered (offer Credit t) p → Picks-offered (offer Extra t) q → Rightly t s (way a l b p q)
 rightly t s true false b p q e f g h = e
 rightly t s true true true p q e f g h = e
 rightly t s true true false (Some j) q e f g h = let r = and-parts (able (at t j)) (lags (at t j)) (sym (offered-is Credit t j) ∙ g) in (r .0, r .1, λ _. f)
@@ -118,7 +119,8 @@ unfolding at all-sound
 all-offer l [] h = refl
 all-offer l (s ∷ t) h = and-from (sound-entry (entry-of l s)) (all-sound (offer l t)) (h 0 (in-line l s) (line-able l s)) (all-offer l t (λ j. h (suc j)))
 
-all-stayed : (l : Line) (bs : List Bool) (t : Table) → ((j : ℕ) → Offerable (at t j)) → all-sound (stayed l bs t) ≡ true
+all-stayed : (l : Line) (bs : List Bool) (t : Table) → ((j : ℕ) → Offerable (at t j)) →
+    all-sound (stayed l bs t) ≡ true
 unfolding at all-sound stayed
 all-stayed l [] t h = refl
 all-stayed l (b ∷ bs) [] h = refl
@@ -145,7 +147,8 @@ module _ {C : Type 0} (x : Cell C) (o : Ordered x) where
       and-from (eqb (length (stayed l bs (x .table))) 64) (all-sound (stayed l bs (x .table)))
       (eq-eqb (length (stayed l bs (x .table))) 64 (length-stayed l bs (x .table) (e ∙ sym (o .book .draft .size)) ∙ o .book .draft .size)) (all-stayed l bs (x .table) offerable)
 
-pub decides : {C : Type 0} (M : Meaning C) → Lawful M → (x : Cell C) (c : ℕ) → Ordered x → Rightly (x .table) (at (x .table) c) (decide M x c)
+pub decides : {C : Type 0} (M : Meaning C) → Lawful M → (x : Cell C) (c : ℕ) → Ordered x →
+    Rightly (x .table) (at (x .table) c) (decide M x c)
 unfolding decide
 decides M law x c f =
     rightly (x .table) (at (x .table) c) (able (at (x .table) c)) (leads (at (x .table) c)) _ _ _ refl refl

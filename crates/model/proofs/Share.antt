@@ -29,12 +29,14 @@ use Rattle.model.proofs.Ledger.{Row, Book, Move, Ran, excess}
 -- m, n: the mark before and after; v, u: the session's virtual time; x, y: the totals of all excesses; w bytes sent; b charged to the session; p its price, r its rate
 
 -- somebody else has the smallest virtual time at the end
-other-ends : (m n v u x y w b p r : ℕ) → w * link + x + m * link ≤ n * link + y → u ≡ v + p * b → v ≤ m + longest * p → n ≤ u → r ≤ link →
+other-ends : (m n v u x y w b p r : ℕ) → w * link + x + m * link ≤ n * link + y → u ≡ v + p * b → v ≤ m + longest * p →
+    n ≤ u → r ≤ link →
     y ≤ (u - n) * r + 62 * (longest * link) → w ≤ p * b + longest * p + 62 * longest
 other-ends m n v u x y w b p r paid e near ahead few bound = omega (arith, mul-le-mul-left (u - n) few)
 
 -- the session sends has it
-itself-ends : (m n v u x y w b p r d : ℕ) → w * link + x + m * link ≤ n * link + y → u ≡ v + p * b → v ≤ m + longest * p → m ≤ v → n ≡ u → r * p ≡ link → r + d ≡ link →
+itself-ends : (m n v u x y w b p r d : ℕ) → w * link + x + m * link ≤ n * link + y → u ≡ v + p * b →
+    v ≤ m + longest * p → m ≤ v → n ≡ u → r * p ≡ link → r + d ≡ link →
     (v - m) * r ≤ x → y ≤ 63 * (longest * link) → w ≤ p * b + longest * p + 62 * longest
 itself-ends m n v u x y w b p r d paid e near above same unit few had bound = by (v - m) (omega arith) (omega arith) had
   where
@@ -47,7 +49,8 @@ itself-ends m n v u x y w b p r d paid e near above same unit few had bound = by
 
 -- ---- the place with the smallest virtual time
 
-least-cases : (b : Bool) (v : ℕ) (o : Option ℕ) (m : ℕ) → sooner b v o ≡ Some m → ((b ≡ true) × (v ≡ m)) ⊎ (o ≡ Some m)
+least-cases : (b : Bool) (v : ℕ) (o : Option ℕ) (m : ℕ) → sooner b v o ≡ Some m →
+    ((b ≡ true) × (v ≡ m)) ⊎ (o ≡ Some m)
 least-cases false v o m e = inr e
 least-cases true v None m e = inl (refl, cc)
 least-cases true v (Some w) m e = by (cases-lt w v)
@@ -60,12 +63,15 @@ least-cases true v (Some w) m e = by (cases-lt w v)
     by (inr h) = inl (refl, omega (arith, same))
 
 -- somebody active is at the smallest virtual time
-pub least-reached : (t : Table) (m : ℕ) → least t ≡ Some m → (k : ℕ) × (k < length t) × (at t k .active ≡ true) × (at t k .virtual-time ≡ m)
+pub least-reached : (t : Table) (m : ℕ) → least t ≡ Some m →
+    (k : ℕ) × (k < length t) × (at t k .active ≡ true) × (at t k .virtual-time ≡ m)
 unfolding least at
 least-reached [] m e = let z : _≡_ {A = ℕ} 0 1 = cc in absurd (omega arith)
 least-reached (s ∷ t) m e = by (least-cases (s .active) (s .virtual-time) (least t) m e) (λ h. least-reached t m h)
   where
-    by : ((s .active ≡ true) × (s .virtual-time ≡ m)) ⊎ (least t ≡ Some m) → (least t ≡ Some m → (k : ℕ) × (k < length t) × (at t k .active ≡ true) × (at t k .virtual-time ≡ m)) → (k : ℕ) × (k < length (s ∷ t)) × (at (s ∷ t) k .active ≡ true) × (at (s ∷ t) k .virtual-time ≡ m)
+    by : ((s .active ≡ true) × (s .virtual-time ≡ m)) ⊎ (least t ≡ Some m) →
+        (least t ≡ Some m → (k : ℕ) × (k < length t) × (at t k .active ≡ true) × (at t k .virtual-time ≡ m)) →
+        (k : ℕ) × (k < length (s ∷ t)) × (at (s ∷ t) k .active ≡ true) × (at (s ∷ t) k .virtual-time ≡ m)
     by (inl h) ih = (0, omega arith, h .0, h .1)
     by (inr h) ih = let r = ih h in (suc (r .0), omega (arith, r .1), r .2, r .3)
 
@@ -112,7 +118,8 @@ excess-none : (m : ℕ) (s : Session) → s .virtual-time ≡ m → excess m s �
 excess-none m s e = let h : s .virtual-time - m ≡ 0 = omega arith in ap (λ (k : ℕ). k * s .rate) h ∙ zero-mul (s .rate)
 
 -- the session that has the smallest virtual time at the end is another, or it is this one
-pub ends : {C : Type 0} (i : ℕ) (x y : Cell C) (w s b : ℕ) → Book (x .mark) (x .table) → Book (y .mark) (y .table) → able (at (x .table) i) ≡ true → able (at (y .table) i) ≡ true → Ran i x y w s b →
+pub ends : {C : Type 0} (i : ℕ) (x y : Cell C) (w s b : ℕ) → Book (x .mark) (x .table) → Book (y .mark) (y .table) →
+    able (at (x .table) i) ≡ true → able (at (y .table) i) ≡ true → Ran i x y w s b →
     w ≤ at (x .table) i .price * b + longest * at (x .table) i .price + 62 * longest
 ends i x y w s b f g a a′ h = by (least-reached (y .table) (y .mark) (g .lowest i act′))
   where
@@ -134,7 +141,8 @@ ends i x y w s b f g a a′ h = by (least-reached (y .table) (y .mark) (g .lowes
     few′ : at (y .table) i .rate ≤ link
     few′ = le-trans (at-le-total (λ s. s .rate) (y .table) i inside) (g .draft .rates)
 
-    two : (k : ℕ) → k < length (y .table) → at (y .table) k .virtual-time ≡ y .mark → Dec (i ≡ k) → w ≤ at (x .table) i .price * b + longest * at (x .table) i .price + 62 * longest
+    two : (k : ℕ) → k < length (y .table) → at (y .table) k .virtual-time ≡ y .mark → Dec (i ≡ k) →
+        w ≤ at (x .table) i .price * b + longest * at (x .table) i .price + 62 * longest
     two k l e (yes same) =
         let e′ : at (y .table) i .virtual-time ≡ y .mark = ap (λ (j : ℕ). at (y .table) j .virtual-time) same ∙ e in
         itself-ends (x .mark) (y .mark) (at (x .table) i .virtual-time) (at (y .table) i .virtual-time) (total (excess (x .mark)) (x .table)) (total (excess (y .mark)) (y .table)) w b (at (x .table) i .price) (at (x .table) i .rate) (link - at (x .table) i .rate)
@@ -153,7 +161,8 @@ ends i x y w s b f g a a′ h = by (least-reached (y .table) (y .mark) (g .lowes
 
 -- ---- calls one after the other
 
-kept-more : (lx ly : ℤ) (b c s r : ℕ) → (lx +ℤ pos b) ≤ℤ (ly +ℤ pos s) → (b ≤ s) ⊎ ((ltZ lx (pos 0) ≡ true) × (b ≤ s + longest)) → (c ≤ r) ⊎ ((ly +ℤ pos c) ≤ℤ pos (r + longest)) →
+kept-more : (lx ly : ℤ) (b c s r : ℕ) → (lx +ℤ pos b) ≤ℤ (ly +ℤ pos s) →
+    (b ≤ s) ⊎ ((ltZ lx (pos 0) ≡ true) × (b ≤ s + longest)) → (c ≤ r) ⊎ ((ly +ℤ pos c) ≤ℤ pos (r + longest)) →
     (b + c ≤ s + r) ⊎ ((lx +ℤ pos (b + c)) ≤ℤ pos (s + r + longest))
 kept-more lx ly b c s r l (inl g) (inl k) = inl (omega arith)
 kept-more lx ly b c s r l (inl g) (inr k) = inr (omega (arith, ints))
@@ -163,7 +172,8 @@ kept-more lx ly b c s r l (inr g) (inr k) = inr (omega (arith, ints))
 ran-none : {C : Type 0} (i : ℕ) (x : Cell C) → Ran i x x 0 0 0
 ran-none i x = record { paid = omega arith; price = refl; time = omega arith; kept = inl (omega arith) }
 
-ran-more : {C : Type 0} (i : ℕ) (x y z : Cell C) (w s b w′ s′ b′ : ℕ) → Move i x y w s b → Ran i y z w′ s′ b′ → Ran i x z (w + w′) (s + s′) (b + b′)
+ran-more : {C : Type 0} (i : ℕ) (x y z : Cell C) (w s b w′ s′ b′ : ℕ) → Move i x y w s b → Ran i y z w′ s′ b′ →
+    Ran i x z (w + w′) (s + s′) (b + b′)
 ran-more i x y z w s b w′ s′ b′ m r = record {
   paid = omega (arith, m .paid, r .paid);
   price = r .price ∙ m .price;
@@ -196,7 +206,8 @@ module _ {C : Type 0} (M : Meaning C) (Fine : Cell C → Type 0)
   last-of i x [] a = a
   last-of i x (k ∷ ks) a = last-of i (step M x k .cell) ks (a .1)
 
-  runs : (i : ℕ) (x : Cell C) (ks : List Call) → Fine x → Always M (Able M i) x ks → (b : ℕ) × Ran i x (after M x ks) (sent M x ks) (sent-by M i x ks) b
+  runs : (i : ℕ) (x : Cell C) (ks : List Call) → Fine x → Always M (Able M i) x ks →
+      (b : ℕ) × Ran i x (after M x ks) (sent M x ks) (sent-by M i x ks) b
   unfolding Always after sent sent-by
   runs i x [] f a = (0, ran-none i x)
   runs i x (k ∷ ks) f a =

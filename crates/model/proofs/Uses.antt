@@ -35,7 +35,8 @@ use Rattle.model.proofs.Books.{ordered-of, within-of, new-sound, step-sound}
 pub in-order-new : (keep : ℕ) → keep ≤ quarters → In-order keep 0 0 (vacancies places)
 in-order-new keep k = ∣ new-sound {C = Unit {0}} keep tt k ∣₁
 
-pub in-order-step : {C : Type 0} (M : Meaning C) → Lawful M → (x : Cell C) (call : Call) → In-order (x .keep) (x .mark) (x .turns) (x .table) →
+pub in-order-step : {C : Type 0} (M : Meaning C) → Lawful M → (x : Cell C) (call : Call) →
+    In-order (x .keep) (x .mark) (x .turns) (x .table) →
     In-order (step M x call .cell .keep) (step M x call .cell .mark) (step M x call .cell .turns) (step M x call .cell .table)
 in-order-step M law x call o = ∥∥₁-map o (step-sound M law x call)
 
@@ -70,21 +71,24 @@ module _ {C : Type 0} (M : Meaning C) (law : Lawful M) (x : Cell C) (b : Sound x
   turn-sender q f = omega (arith, sender-inside (x .table) c (decide M x c) (decides M law x c (ordered-of x b)) q f, b .size)
 
   -- virtual times and allowances after the charge
-  pub turn-low : (j : ℕ) → Low (dearest * x .turns + dearest) (at (turned (x .keep) (x .table) c (length-of (x .table) (sender c (decide M x c))) (decide M x c)) j)
+  pub turn-low : (j : ℕ) →
+      Low (dearest * x .turns + dearest) (at (turned (x .keep) (x .table) c (length-of (x .table) (sender c (decide M x c))) (decide M x c)) j)
   turn-low =
       let k = chosen-is (x .mark) (x .table) c (ordered-of x b .book) e in
       let d = charge-low b c (length-of (x .table) (sender c (decide M x c))) (k .active) turn-length in
       turned-low (x .keep) (length-of (x .table) (sender c (decide M x c))) (dearest * x .turns) (x .table) c (b .modest) d (within-of x b .rows) (decide M x c)
 
   -- the table before the departures
-  pub turn-midway : x .turns < most-turns → Midway lag-bound (turned (x .keep) (x .table) c (length-of (x .table) (sender c (decide M x c))) (decide M x c))
+  pub turn-midway : x .turns < most-turns →
+      Midway lag-bound (turned (x .keep) (x .table) c (length-of (x .table) (sender c (decide M x c))) (decide M x c))
   turn-midway m =
       let o = ordered-of x b in
+      let k = chosen-is (x .mark) (x .table) c (o .book) e in
       let w = decide M x c in
       let n = length-of (x .table) (sender c w) in
       midway-of (x .mark) lag-bound (turned (x .keep) (x .table) c n w)
-      (way-draft (x .keep) (x .mark) n (x .table) c w (o .book .draft) (chosen-is (x .mark) (x .table) c (o .book) e) turn-length (decides M law x c o))
-      (omega (arith, way-owes (x .keep) n (x .table) c w, b .owing, turn-length))
+      (way-draft (x .keep) (x .mark) n (x .table) c w k (decides M law x c o) (o .book .draft) turn-length)
+      (omega (arith, way-owes (x .keep) (x .mark) n (x .table) c w k (decides M law x c o), b .owing, turn-length))
 
 -- ---- departures
 
