@@ -77,7 +77,9 @@ charged-low : (keep spent n b : ℕ) (s : Session) → keep ≤ quarters → spe
 charged-low keep spent n b s k p d h = (
   omega (arith, h .0, d),
   cond-both (leads s) (s .allowance +ℤ pos (keep * (n * s .price)) -ℤ pos (spent * (n * s .price))) (s .allowance) (λ z. natAbs z ≤ quarters * (b + dearest))
-      (λ _. let f = abs-moves (s .allowance) (keep * (n * s .price)) (spent * (n * s .price)) (quarters * dearest) (quarters * b) (h .1) (mul-le-mul k d) (mul-le-mul p d) in omega arith)
+      (λ _. let f =
+          abs-moves (s .allowance) (keep * (n * s .price)) (spent * (n * s .price)) (quarters * dearest) (quarters * b)
+          (h .1) (mul-le-mul k d) (mul-le-mul p d) in omega arith)
       (λ _. omega (arith, h .1)),
 )
 
@@ -135,7 +137,9 @@ module _ {C : Type 0} (M : Meaning C) (law : Lawful M) where
   -- a call that is no turn
   calm-within : (x : Cell C) (p : ℕ) (f : Session → Session) (c : C) → Within x →
       Low (dearest * x .turns) (f (at (x .table) p)) → Within (settled M x (change (x .table) p f) (x .turns) c)
-  calm-within x p f c w h = settled-within x (change (x .table) p f) (x .turns) c (w .keep) (w .mark) (each-change (Low (dearest * x .turns)) (x .table) p f (w .rows) h)
+  calm-within x p f c w h =
+      settled-within x (change (x .table) p f) (x .turns) c (w .keep) (w .mark)
+      (each-change (Low (dearest * x .turns)) (x .table) p f (w .rows) h)
 
   turn-within : (x : Cell C) (c : ℕ) → Ordered x → Within x → chosen (x .table) ≡ Some c →
       Within (turn-of M x c .cell)
@@ -148,7 +152,8 @@ module _ {C : Type 0} (M : Meaning C) (law : Lawful M) where
       let d = dear (x .mark) n (at (x .table) c) (s .book .draft .rows c) (k .active) l in
       let h = turned-low (x .keep) n (dearest * x .turns) (x .table) c (w .keep) d (w .rows) v in
       settled-within x _ (x .turns + 1) _ (w .keep) (omega (arith, w .mark))
-      (λ j. let g = departures-low (dearest * x .turns + dearest) (turned (x .keep) (x .table) c n v) h j in omega (arith, g .0, g .1))
+      (λ j. let g =
+          departures-low (dearest * x .turns + dearest) (turned (x .keep) (x .table) c n v) h j in omega (arith, g .0, g .1))
 
   pub step-within : (x : Cell C) (call : Call) → Ordered x → Within x → Within (step M x call .cell)
   unfolding accepted

@@ -93,7 +93,8 @@ module _ {C : Type 0} (M : Meaning C) (law : Lawful M) where
 
   turn-good : (x : Cell C) (c : ℕ) (w : Way) → Ordered x → x .turns < most-turns → Chosen (x .mark) (x .table) c →
       Rightly (x .table) (at (x .table) c) w →
-      Good x (record { cell = turn-after M x c w (length-of (x .table) (sender c w)); answer = Ok (Turned (answer-of (x .table) c w)) })
+      Good x (record { cell =
+          turn-after M x c w (length-of (x .table) (sender c w)); answer = Ok (Turned (answer-of (x .table) c w)) })
   unfolding turn-after settled
   turn-good x c w s more k r = record {
     ordered = record {
@@ -104,7 +105,9 @@ module _ {C : Type 0} (M : Meaning C) (law : Lawful M) where
     rises = turn-rises (x .keep) (x .mark) (x .table) c w n (s .book) k r l;
     move = λ i a a′.
         let p = turn-part (x .keep) (x .mark) (x .table) c w n (s .book) k r l i a a′ in
-        let q = subst (λ (s : ℕ). Part i (x .table) (departures (turned (x .keep) (x .table) c n w)) s (p .0)) (sent-named i (x .table) (sender c w)) (p .1) in
+        let q =
+                subst (λ (s : ℕ). Part i (x .table) (departures (turned (x .keep) (x .table) c n w)) s (p .0))
+                (sent-named i (x .table) (sender c w)) (p .1) in
         let pays = turn-pays (x .keep) (x .mark) (x .table) c w n (s .book) k r l in (
           p .0,
           record {

@@ -54,7 +54,9 @@ module _ (m : ℕ) (t : Table) (p : ℕ) (f : Session → Session) (inside : p <
   calm-held = after-change (λ j s. at t j .active ≡ true → m ≤ s .virtual-time) (k .held) (λ j a. b .draft .rows j .ahead a)
 
   pub calm-book : Book (mark-after m t (change t p f)) (change t p f)
-  calm-book = settle m t (change t p f) calm-draft calm-held (after-change (λ _ s. s .active ≡ true → (waiting s || leads s) ≡ true) (k .busy) (b .busy))
+  calm-book =
+      settle m t (change t p f) calm-draft calm-held
+      (after-change (λ _ s. s .active ≡ true → (waiting s || leads s) ≡ true) (k .busy) (b .busy))
 
   pub calm-rises : m ≤ mark-after m t (change t p f)
   calm-rises = mark-rises m t (change t p f) calm-draft calm-held
@@ -67,7 +69,10 @@ module _ (m : ℕ) (t : Table) (p : ℕ) (f : Session → Session) (inside : p <
 
   pub calm-kept : (i : ℕ) → able (at t i) ≡ true →
       (at (change t p f) i .price ≡ at t i .price) × (at (change t p f) i .virtual-time ≡ at t i .virtual-time) × (at (change t p f) i .lag ≡ at t i .lag)
-  calm-kept = after-change (λ j s. able (at t j) ≡ true → (s .price ≡ at t j .price) × (s .virtual-time ≡ at t j .virtual-time) × (s .lag ≡ at t j .lag)) (λ a. (k .kept a .0, k .kept a .1, k .lag)) (λ j a. (refl, refl, refl))
+  calm-kept =
+      after-change
+      (λ j s. able (at t j) ≡ true → (s .price ≡ at t j .price) × (s .virtual-time ≡ at t j .virtual-time) × (s .lag ≡ at t j .lag))
+      (λ a. (k .kept a .0, k .kept a .1, k .lag)) (λ j a. (refl, refl, refl))
 
 -- ---- the calls that are no turn
 

@@ -45,8 +45,12 @@ module _ {C : Type 0} (M : Meaning C) (x : Cell C) (size : length (x .table) ≡
 
   accepts : (call : Call) → All (λ c. c .0 ≡ false) (refusals x call) → P call (accepted M x call)
   unfolding accepted
-  accepts (opening p r) h = opens p r (inside p (h .0)) (h .1 .0) (not-false (in-tariff r) (h .1 .1 .0)) (ltb-false link (booked-total (x .table) + r) (h .1 .1 .1 .0))
-  accepts (closing p) h = closes p (inside p (h .0)) (not-false (at (x .table) p .booked) (h .1 .0)) (h .1 .1 .0) (ltb-false (x .mark) (at (x .table) p .virtual-time) (h .1 .1 .1 .0))
+  accepts (opening p r) h =
+      opens p r (inside p (h .0)) (h .1 .0) (not-false (in-tariff r) (h .1 .1 .0))
+      (ltb-false link (booked-total (x .table) + r) (h .1 .1 .1 .0))
+  accepts (closing p) h =
+      closes p (inside p (h .0)) (not-false (at (x .table) p .booked) (h .1 .0)) (h .1 .1 .0)
+      (ltb-false (x .mark) (at (x .table) p .virtual-time) (h .1 .1 .1 .0))
   accepts (arrival p g n) h =
       let o = or-parts (eqb n 0) (ltb longest n) (h .1 .1 .0) in
       arrives p g n (inside p (h .0)) (not-false (at (x .table) p .booked) (h .1 .0)) (omega (arith, eqb-false n 0 (o .0))) (ltb-false longest n (o .1))

@@ -43,21 +43,24 @@ length-share l r c [] = refl
 length-share l r c (s ∷ t) = ap suc (length-share l r (c + active-rate s) t)
 
 no-part : (l r c a : ℕ) → a ≡ 0 → l * (c + a) / r - l * c / r ≡ 0
-no-part l r c a e = ap (λ (a : ℕ). l * (c + a) / r - l * c / r) e ∙ ap (λ (k : ℕ). l * k / r - l * c / r) (add-zero c) ∙ sub-self (l * c / r)
+no-part l r c a e =
+    ap (λ (a : ℕ). l * (c + a) / r - l * c / r) e ∙ ap (λ (k : ℕ). l * k / r - l * c / r) (add-zero c) ∙ sub-self (l * c / r)
 
 -- each place gets a part, and one that is not active gets None
 pub share-at : (l r c : ℕ) (t : Table) (j : ℕ) →
     (n : ℕ) × (at (share l r c t) j ≡ owed n (at t j)) × (at t j .active ≡ false → n ≡ 0)
 unfolding at share
 share-at l r c [] j = (0, refl, λ e. refl)
-share-at l r c (s ∷ t) zero = (l * (c + active-rate s) / r - l * c / r, refl, λ e. no-part l r c (active-rate s) (cond-false (s .active) (s .rate) 0 e))
+share-at l r c (s ∷ t) zero =
+    (l * (c + active-rate s) / r - l * c / r, refl, λ e. no-part l r c (active-rate s) (cond-false (s .active) (s .rate) 0 e))
 share-at l r c (s ∷ t) (suc j) = share-at l r (c + active-rate s) t j
 
 total-share : (g : Session → ℕ) → ((n : ℕ) (s : Session) → g (owed n s) ≡ g s) → (l r c : ℕ) (t : Table) →
     total g (share l r c t) ≡ total g t
 unfolding share total
 total-share g h l r c [] = refl
-total-share g h l r c (s ∷ t) = omega (arith, h (l * (c + active-rate s) / r - l * c / r) s, total-share g h l r (c + active-rate s) t)
+total-share g h l r c (s ∷ t) =
+    omega (arith, h (l * (c + active-rate s) / r - l * c / r) s, total-share g h l r (c + active-rate s) t)
 
 -- the parts add up
 pub parts : (l r c e : ℕ) (t : Table) → c + total active-rate t ≡ e →
@@ -202,7 +205,9 @@ module _ (t : Table) (k : ℕ) (inside : k < length t) (goes : departing (at t k
     -- with nobody left to share it, nothing was owed
     nobody-left : rates-left t k ≡ 0 → lost t k ≡ 0
     nobody-left e =
-        let z = totalℤ-none (λ s. s .lag) (less t k) (λ j. quiet-less j (rate-counts (at (less t k) j) (counted-less j) (total-zero active-rate (less t k) e refl j))) in
+        let z =
+                totalℤ-none (λ s. s .lag) (less t k)
+                (λ j. quiet-less j (rate-counts (at (less t k) j) (counted-less j) (total-zero active-rate (less t k) e refl j))) in
         let a = lag-less (d .balance) in
         omega (arith, ints)
 
@@ -210,13 +215,17 @@ module _ (t : Table) (k : ℕ) (inside : k < length t) (goes : departing (at t k
     unfolding departed
     departed-midway = record {
       size = length-share (lost t k) (rates-left t k) 0 (less t k) ∙ length-change t k gone ∙ d .size;
-      rates = omega (arith, total-share (λ s. s .rate) (λ n s. refl) (lost t k) (rates-left t k) 0 (less t k), total-same (λ s. s .rate) t k gone refl, d .rates);
+      rates =
+          omega
+          (arith, total-share (λ s. s .rate) (λ n s. refl) (lost t k) (rates-left t k) 0 (less t k), total-same (λ s. s .rate) t k gone refl, d .rates);
       balance =
           parts (lost t k) (rates-left t k) 0 (rates-left t k) (less t k) (zero-add (rates-left t k))
           ∙ ap (λ (n : ℕ). totalℤ (λ s. s .lag) (less t k) +ℤ pos n) (whole (lost t k) (rates-left t k) nobody-left)
           ∙ lag-less (d .balance);
       owing = le-trans departed-owes (d .owing);
-      quiet = λ j. let r = given j in subst (λ (s : Session). s .active ≡ false → s .lag ≡ pos 0) (sym (r .1)) (λ a. still (at (less t k) j .lag) (r .0) (quiet-less j a) (r .2 a));
+      quiet =
+          λ j. let r = given j in subst (λ (s : Session). s .active ≡ false → s .lag ≡ pos 0) (sym (r .1))
+          (λ a. still (at (less t k) j .lag) (r .0) (quiet-less j a) (r .2 a));
       counted = λ j. let r = given j in subst (λ (s : Session). s .active ≡ true → 0 < s .rate) (sym (r .1)) (counted-less j);
     }
       where
@@ -228,10 +237,14 @@ module _ (t : Table) (k : ℕ) (inside : k < length t) (goes : departing (at t k
   unfolding departed
   departed-draft m d =
       let w = departed-midway (owing t) (midway-of m (owing t) t d (le-refl (owing t))) in
-      let rows = each-change (Row m) t k gone (d .rows) (row-gone m (at t k) (d .rows k) (departs (at t k) goes .0) (departs (at t k) goes .1)) in
+      let rows =
+              each-change (Row m) t k gone (d .rows)
+              (row-gone m (at t k) (d .rows k) (departs (at t k) goes .0) (departs (at t k) goes .1)) in
       record {
         size = w .size;
-        rows = λ j. let r = share-at (lost t k) (rates-left t k) 0 (less t k) j in subst (Row m) (sym (r .1)) (row-owed m (r .0) (at (less t k) j) (rows j) (r .2));
+        rows =
+            λ j. let r = share-at (lost t k) (rates-left t k) 0 (less t k) j in subst (Row m) (sym (r .1))
+            (row-owed m (r .0) (at (less t k) j) (rows j) (r .2));
         rates = w .rates;
         balance = w .balance;
       }
@@ -297,7 +310,8 @@ pub depart-same : {X : Type 0} (g : Session → X) → ((n : ℕ) (s : Session) 
     ((s : Session) → g (gone s) ≡ g s) → (n : ℕ) (t : Table) (j : ℕ) → g (at (depart n t) j) ≡ g (at t j)
 unfolding depart
 depart-same g h l zero t j = refl
-depart-same g h l (suc n) t j = depart-same g h l n (departed t (first departing t)) j ∙ once-same g h l t (first departing t) refl j
+depart-same g h l (suc n) t j =
+    depart-same g h l n (departed t (first departing t)) j ∙ once-same g h l t (first departing t) refl j
 
 once-total : (g : Session → ℕ) → ((n : ℕ) (s : Session) → g (owed n s) ≡ g s) → ((s : Session) → g (gone s) ≡ g s) →
     (t : Table) (o : Option ℕ) → first departing t ≡ o → total g (departed t o) ≡ total g t
@@ -356,14 +370,16 @@ depart-ends zero t h = first-never departing t (λ j. quiet j)
     quiet j = by (cases-bool (at t j .active))
       where
         by : (at t j .active ≡ true) ⊎ (at t j .active ≡ false) → departing (at t j) ≡ false
-        by (inl e) = let z = total-zero (λ s. one-if (s .active)) t (omega arith) refl j in let o : one-if (at t j .active) ≡ 1 = ap one-if e in absurd (omega arith)
+        by (inl e) =
+            let z = total-zero (λ s. one-if (s .active)) t (omega arith) refl j in let o : one-if (at t j .active) ≡ 1 = ap one-if e in absurd (omega arith)
         by (inr e) = ap (λ (b : Bool). b && (not (waiting (at t j)) && not (leads (at t j)))) e
 depart-ends (suc n) t h = by (first departing t) refl (λ u g. depart-ends n u g)
   where
     by : (o : Option ℕ) → first departing t ≡ o →
         ((u : Table) → active-count u ≤ n → first departing (depart n u) ≡ None) →
         first departing (depart n (departed t (first departing t))) ≡ None
-    by None e ih = ap (λ (o : Option ℕ). first departing (depart n (departed t o))) e ∙ ap (first departing) (depart-still n t e) ∙ e
+    by None e ih =
+        ap (λ (o : Option ℕ). first departing (depart n (departed t o))) e ∙ ap (first departing) (depart-still n t e) ∙ e
     by (Some k) e ih =
         let f = first-found departing t k e in
         let c = departed-count t k (f .0) (f .1) in
@@ -380,7 +396,8 @@ stays-busy s e a = by (waiting s) (leads s) (sym (ap (λ (b : Bool). b && (not (
 -- nobody is left that would depart
 pub departures-end : (t : Table) (j : ℕ) → departing (at (departures t) j) ≡ false
 unfolding departures
-departures-end t j = first-none departing (depart (active-count t) t) refl (depart-ends (active-count t) t (le-refl (active-count t))) j
+departures-end t j =
+    first-none departing (depart (active-count t) t) refl (depart-ends (active-count t) t (le-refl (active-count t))) j
 
 pub departures-busy : (t : Table) (j : ℕ) → at (departures t) j .active ≡ true →
     (waiting (at (departures t) j) || leads (at (departures t) j)) ≡ true

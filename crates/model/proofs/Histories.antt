@@ -109,13 +109,17 @@ module _ {C : Type 0} (M : Meaning C) (law : Lawful M) where
       at (x .table) i .queue ≡ sent-from i (a .sent) (a .length) ++ at (step M x turn .cell .table) i .queue
   turn-takes x a i s e =
       let q = step-queued M law x turn i s in
-      let f = subst (λ (r : Reply). at (x .table) i .queue ++ brought-to i turn r ≡ taken-from i r ++ at (step M x turn .cell .table) i .queue) e q in
+      let f =
+              subst
+              (λ (r : Reply). at (x .table) i .queue ++ brought-to i turn r ≡ taken-from i r ++ at (step M x turn .cell .table) i .queue) e q in
       sym (append-nil (at (x .table) i .queue)) ∙ f
 
   sent-takes : (x : Cell C) (a : Turn) (s : Sent) (i : ℕ) → Ordered x → step M x turn .answer ≡ Ok (Turned a) →
       a .sent ≡ Some s →
       at (x .table) i .queue ≡ cond (eqb (s .sender) i) (frame-of s (a .length) ∷ []) [] ++ at (step M x turn .cell .table) i .queue
-  sent-takes x a s i o e f = turn-takes x a i o e ∙ ap (λ (r : Option Sent). sent-from i r (a .length) ++ at (step M x turn .cell .table) i .queue) f
+  sent-takes x a s i o e f =
+      turn-takes x a i o e ∙ ap
+      (λ (r : Option Sent). sent-from i r (a .length) ++ at (step M x turn .cell .table) i .queue) f
 
   -- a place closes at the mark or below
   Closed : Cell C → Call → Outcome M → Type 0
@@ -178,7 +182,9 @@ module _ {C : Type 0} (M : Meaning C) (law : Lawful M) where
   reached keep c ks = ordered (new keep c) ks (new-ordered keep c)
 
   reached-within : Throughout M (λ x. x .keep ≤ quarters → Within x)
-  reached-within keep c ks k = within (new keep c) ks (new-ordered keep c) (new-within keep c (subst (λ (n : ℕ). n ≤ quarters) (same-keep (new keep c) ks (new-ordered keep c)) k))
+  reached-within keep c ks k =
+      within (new keep c) ks (new-ordered keep c)
+      (new-within keep c (subst (λ (n : ℕ). n ≤ quarters) (same-keep (new keep c) ks (new-ordered keep c)) k))
 
   -- ---- the promises
 
@@ -191,7 +197,8 @@ module _ {C : Type 0} (M : Meaning C) (law : Lawful M) where
   idle-turns keep c ks =
       let x = after M (new keep c) ks in
       let s = reached keep c ks in
-      turn-case x (λ a. (a .sent ≡ None) ↔ ((i : ℕ) → able (at (x .table) i) ≡ false)) s (λ c e. way-idles (x .table) c (decide M x c) (decides M law x c s))
+      turn-case x (λ a. (a .sent ≡ None) ↔ ((i : ℕ) → able (at (x .table) i) ≡ false)) s
+      (λ c e. way-idles (x .table) c (decide M x c) (decides M law x c s))
 
   pub chooses : Chooses-the-least-advanced M
   chooses keep c ks =
@@ -202,15 +209,18 @@ module _ {C : Type 0} (M : Meaning C) (law : Lawful M) where
   says-who keep c ks a s e f =
       let x = after M (new keep c) ks in
       let o = reached keep c ks in
-      let y = step M x turn .cell in (
-        sent-takes x a s (s .sender) o e f ∙ ap (λ (fs : List Frame). fs ++ at (y .table) (s .sender) .queue) (cond-true (eqb (s .sender) (s .sender)) (frame-of s (a .length) ∷ []) [] (eq-eqb (s .sender) (s .sender) refl)),
-        λ i n. sym (sent-takes x a s i o e f ∙ ap (λ (fs : List Frame). fs ++ at (y .table) i .queue) (cond-false (eqb (s .sender) i) (frame-of s (a .length) ∷ []) [] (ne-eqb (s .sender) i n))),
+      let one = frame-of s (a .length) ∷ [] in
+      let y : ℕ → List Frame = λ i. at (step M x turn .cell .table) i .queue in
+      let q = s .sender in (
+        sent-takes x a s q o e f ∙ ap (λ (fs : List Frame). fs ++ y q) (cond-true (eqb q q) one [] (eq-eqb q q refl)),
+        λ i n. sym (sent-takes x a s i o e f ∙ ap (λ (fs : List Frame). fs ++ y i) (cond-false (eqb q i) one [] (ne-eqb q i n))),
       )
 
   says-idle : Says-when-idle M
   says-idle keep c ks =
       let x = after M (new keep c) ks in
-      turn-case x (λ a. ((a .kind ≡ Idle) ↔ (a .sent ≡ None)) × (a .sent ≡ None → a .length ≡ idle-length)) (reached keep c ks) (λ c e. way-says (x .table) c (decide M x c))
+      turn-case x (λ a. ((a .kind ≡ Idle) ↔ (a .sent ≡ None)) × (a .sent ≡ None → a .length ≡ idle-length)) (reached keep c ks)
+      (λ c e. way-says (x .table) c (decide M x c))
 
   queues : Keeps-the-queues M
   queues keep c ks call i = step-queued M law (after M (new keep c) ks) call i (reached keep c ks)
@@ -222,7 +232,8 @@ module _ {C : Type 0} (M : Meaning C) (law : Lawful M) where
       bytes (at (x .table) i .queue) + brought M i x ks ≡ sent-by M i x ks + bytes (at (after M x ks .table) i .queue)
   unfolding after sent-by brought
   counts-at i x [] s = omega arith
-  counts-at i x (k ∷ ks) s = omega (arith, step-counts M law x k i s, counts-at i (step M x k .cell) ks (step-good M law x k s .ordered))
+  counts-at i x (k ∷ ks) s =
+      omega (arith, step-counts M law x k i s, counts-at i (step M x k .cell) ks (step-good M law x k s .ordered))
 
   adds-up : (x : Cell C) (ks : List Call) → Ordered x → sent M x ks ≡ sum-to places (λ i. sent-by M i x ks)
   unfolding sent sent-by
@@ -234,7 +245,8 @@ module _ {C : Type 0} (M : Meaning C) (law : Lawful M) where
       omega arith
 
   pub counts : Counts-every-byte M
-  counts keep c ks stretch = (λ i. counts-at i (after M (new keep c) ks) stretch (reached keep c ks), adds-up (after M (new keep c) ks) stretch (reached keep c ks))
+  counts keep c ks stretch =
+      (λ i. counts-at i (after M (new keep c) ks) stretch (reached keep c ks), adds-up (after M (new keep c) ks) stretch (reached keep c ks))
 
   pub balanced : Always-balanced M
   balanced keep c ks = let d = reached keep c ks .book .draft in (d .balance, λ i a. d .rows i .quiet a .0)
@@ -270,7 +282,8 @@ module _ {C : Type 0} (M : Meaning C) (law : Lawful M) where
       let s = reached keep c ks in
       let g = step-good M law x (closing place) s in
       let y = step M x (closing place) .cell in
-      le-trans (closed x (closing place) s e) (le-trans (g .rises) (le-trans (rises y more (g .ordered)) (ordered y more (g .ordered) .book .draft .rows place .ahead a)))
+      le-trans (closed x (closing place) s e) (le-trans (g .rises) (le-trans (rises y more (g .ordered))
+      (ordered y more (g .ordered) .book .draft .rows place .ahead a)))
 
   pub stays-within : Stays-within M
   stays-within keep c ks k =
@@ -278,7 +291,9 @@ module _ {C : Type 0} (M : Meaning C) (law : Lawful M) where
       let s = reached keep c ks in
       let w = reached-within keep c ks k in (
         omega (arith, w .mark, s .few), s .few, s .book .draft .rates,
-        λ i. let r = w .rows i in (omega (arith, r .0, s .few), omega (arith, r .1, s .few), omega (arith, lag-low x i s, s .few), s .book .draft .rows i .room),
+        λ i. let r =
+            w .rows i in
+            (omega (arith, r .0, s .few), omega (arith, r .1, s .few), omega (arith, lag-low x i s, s .few), s .book .draft .rows i .room),
       )
 
   pub keeps-books : Keeps-its-books M

@@ -22,7 +22,8 @@ take-share : (lag r c n : ℕ) (t : Table) → take n (share lag r c t) ≡ shar
 unfolding share
 take-share lag r c zero t = refl
 take-share lag r c (suc n) [] = refl
-take-share lag r c (suc n) (s ∷ t) = ap (λ (u : Table). owed (part lag r (c + active-rate s) - part lag r c) s ∷ u) (take-share lag r (c + active-rate s) n t)
+take-share lag r c (suc n) (s ∷ t) =
+    ap (λ (u : Table). owed (part lag r (c + active-rate s) - part lag r c) s ∷ u) (take-share lag r (c + active-rate s) n t)
 
 floors : Floors
 floors lag r n t =

@@ -83,11 +83,15 @@ brings : (i : ℕ) (t : Table) (p : ℕ) (g : Frame) (f : Session → Session) �
 brings i t p g f l h = by (ℕ-discrete p i)
   where
     at-p : at t p .queue ++ cond (eqb p p) (g ∷ []) [] ≡ at (change t p f) p .queue
-    at-p = ap (λ (fs : List Frame). at t p .queue ++ fs) (cond-true (eqb p p) (g ∷ []) [] (eq-eqb p p refl)) ∙ sym (ap (λ (s : Session). s .queue) (at-change t p f l) ∙ h (at t p))
+    at-p =
+        ap (λ (fs : List Frame). at t p .queue ++ fs) (cond-true (eqb p p) (g ∷ []) [] (eq-eqb p p refl)) ∙ sym
+        (ap (λ (s : Session). s .queue) (at-change t p f l) ∙ h (at t p))
 
     by : Dec (p ≡ i) → at t i .queue ++ cond (eqb p i) (g ∷ []) [] ≡ at (change t p f) i .queue
     by (yes e) = subst (λ (j : ℕ). at t j .queue ++ cond (eqb p j) (g ∷ []) [] ≡ at (change t p f) j .queue) e at-p
-    by (no n) = ap (λ (fs : List Frame). at t i .queue ++ fs) (cond-false (eqb p i) (g ∷ []) [] (ne-eqb p i n)) ∙ append-nil (at t i .queue) ∙ sym (ap (λ (s : Session). s .queue) (at-other t p i f n))
+    by (no n) =
+        ap (λ (fs : List Frame). at t i .queue ++ fs) (cond-false (eqb p i) (g ∷ []) [] (ne-eqb p i n)) ∙ append-nil
+        (at t i .queue) ∙ sym (ap (λ (s : Session). s .queue) (at-other t p i f n))
 
 -- a change of one place that leaves its queue
 leaves : (i : ℕ) (t : Table) (p : ℕ) (f : Session → Session) → p < length t → f (at t p) .queue ≡ at t p .queue →
@@ -95,7 +99,9 @@ leaves : (i : ℕ) (t : Table) (p : ℕ) (f : Session → Session) → p < lengt
 leaves i t p f l h = append-nil (at t i .queue) ∙ by (ℕ-discrete p i)
   where
     by : Dec (p ≡ i) → at t i .queue ≡ at (change t p f) i .queue
-    by (yes e) = subst (λ (j : ℕ). at t j .queue ≡ at (change t p f) j .queue) e (sym (ap (λ (s : Session). s .queue) (at-change t p f l) ∙ h))
+    by (yes e) =
+        subst (λ (j : ℕ). at t j .queue ≡ at (change t p f) j .queue) e
+        (sym (ap (λ (s : Session). s .queue) (at-change t p f l) ∙ h))
     by (no n) = sym (ap (λ (s : Session). s .queue) (at-other t p i f n))
 
 none-waits : (q : List Frame) → some-wait q ≡ false → [] ≡ q
@@ -141,7 +147,8 @@ unfolding bytes
 sent-adds n t None h = sym (sum-none n (λ i. 0) (λ _ _. refl))
 sent-adds n t (Some q) h =
     let one = front (at t q .queue) ∷ [] in
-    sym (sum-one n q (λ i. bytes (out i t (Some q))) (h q refl) (λ i e. ap bytes (cond-false (eqb q i) one [] (ne-eqb q i e))) ∙ ap bytes (cond-true (eqb q q) one [] (eq-eqb q q refl)))
+    sym (sum-one n q (λ i. bytes (out i t (Some q))) (h q refl) (λ i e. ap bytes (cond-false (eqb q i) one [] (ne-eqb q i e)))
+    ∙ ap bytes (cond-true (eqb q q) one [] (eq-eqb q q refl)))
 
 -- whoever sends is a place of the table
 pub sender-inside : (t : Table) (c : ℕ) (w : Way) → Rightly t (at t c) w → (q : ℕ) → sender c w ≡ Some q → q < length t
@@ -159,7 +166,8 @@ sender-inside t c w r =
 
 module _ {C : Type 0} (M : Meaning C) (law : Lawful M) where
   abbrev pub Queued : Cell C → ℕ → Call → Outcome M → Type 0
-  Queued x i call o = at (x .table) i .queue ++ brought-to i call (o .answer) ≡ taken-from i (o .answer) ++ at (o .cell .table) i .queue
+  Queued x i call o =
+      at (x .table) i .queue ++ brought-to i call (o .answer) ≡ taken-from i (o .answer) ++ at (o .cell .table) i .queue
 
   turn-queued : (x : Cell C) (i c : ℕ) → Ordered x →
       at (x .table) i .queue ≡ taken-from i (turn-of M x c .answer) ++ at (turn-of M x c .cell .table) i .queue
@@ -177,7 +185,8 @@ module _ {C : Type 0} (M : Meaning C) (law : Lawful M) where
       (λ _ why. append-nil (at (x .table) i .queue))
       (λ p r l b _ _. leaves i (x .table) p (λ _. fresh r (price-of r)) l (sym (ap (λ (s : Session). s .queue) (s .book .draft .rows p .bare b))))
       (λ p l b a _. leaves i (x .table) p (λ _. vacant) l (none-waits (at (x .table) p .queue) (s .book .draft .rows p .quiet a .1)))
-      (λ p g n l _ _ _ _. brings i (x .table) p (record { tag = g; length = n }) (arrived (x .mark) (record { tag = g; length = n })) l (λ s. refl))
+      (λ p g n l _ _ _ _. brings i (x .table) p (record { tag =
+          g; length = n }) (arrived (x .mark) (record { tag = g; length = n })) l (λ s. refl))
       (λ p b l _. leaves i (x .table) p (with-good b) l refl)
       (λ c e _. append-nil (at (x .table) i .queue) ∙ turn-queued x i c s)
       call
@@ -202,4 +211,6 @@ module _ {C : Type 0} (M : Meaning C) (law : Lawful M) where
   -- the bytes of one queue, over a call
   pub step-counts : (x : Cell C) (call : Call) (i : ℕ) → Ordered x →
       bytes (at (x .table) i .queue) + bytes (brought-to i call (step M x call .answer)) ≡ bytes (taken-from i (step M x call .answer)) + bytes (at (step M x call .cell .table) i .queue)
-  step-counts x call i s = sym (bytes-append (at (x .table) i .queue) _) ∙ ap bytes (step-queued x call i s) ∙ bytes-append (taken-from i (step M x call .answer)) _
+  step-counts x call i s =
+      sym (bytes-append (at (x .table) i .queue) _) ∙ ap bytes (step-queued x call i s) ∙ bytes-append
+      (taken-from i (step M x call .answer)) _

@@ -64,9 +64,11 @@ rightly t s true false b p q e f g h = e
 rightly t s true true true p q e f g h = e
 rightly t s true true false (Some j) q e f g h = let r = and-parts (able (at t j)) (lags (at t j)) (sym (offered-is Credit t j) ∙ g) in (r .0, r .1, λ _. f)
 rightly t s true true false None q e f g h = e
-rightly t s false l b (Some j) q e f g h = let r = and-parts (able (at t j)) (lags (at t j)) (sym (offered-is Credit t j) ∙ g) in (r .0, r .1, λ a. absurd (both-ways (able s) e a))
+rightly t s false l b (Some j) q e f g h =
+    let r = and-parts (able (at t j)) (lags (at t j)) (sym (offered-is Credit t j) ∙ g) in (r .0, r .1, λ a. absurd (both-ways (able s) e a))
 rightly t s false l b None (Some j) e f g h = let r = and-parts (able (at t j)) (not (lags (at t j))) (sym (offered-is Extra t j) ∙ h) in (r .0, e)
-rightly t s false l b None None e f g h = λ j. neither (able (at t j)) (lags (at t j)) (sym (offered-is Credit t j) ∙ g j) (sym (offered-is Extra t j) ∙ h j)
+rightly t s false l b None None e f g h =
+    λ j. neither (able (at t j)) (lags (at t j)) (sym (offered-is Credit t j) ∙ g j) (sym (offered-is Extra t j) ∙ h j)
 
 -- ---- offers are sound
 
@@ -117,7 +119,9 @@ line-able Extra s e = and-parts (able s) (not (lags s)) e .0
 all-offer : (l : Line) (t : Table) → ((j : ℕ) → Offerable (at t j)) → all-sound (offer l t) ≡ true
 unfolding at all-sound
 all-offer l [] h = refl
-all-offer l (s ∷ t) h = and-from (sound-entry (entry-of l s)) (all-sound (offer l t)) (h 0 (in-line l s) (line-able l s)) (all-offer l t (λ j. h (suc j)))
+all-offer l (s ∷ t) h =
+    and-from (sound-entry (entry-of l s)) (all-sound (offer l t)) (h 0 (in-line l s) (line-able l s))
+    (all-offer l t (λ j. h (suc j)))
 
 all-stayed : (l : Line) (bs : List Bool) (t : Table) → ((j : ℕ) → Offerable (at t j)) →
     all-sound (stayed l bs t) ≡ true
@@ -165,4 +169,6 @@ pub chosen-is : (m : ℕ) (t : Table) (c : ℕ) → Book m t → chosen t ≡ So
 chosen-is m t c b e =
     let n = chosen-next t c e in
     let k = least-reached t m (b .lowest c (n .active)) in
-    record { inside = n .inside; active = n .active; level = omega (arith, n .least (k .0) (k .2), k .3, b .draft .rows c .ahead (n .active)) }
+    record { inside =
+        n .inside; active = n .active; level = omega
+        (arith, n .least (k .0) (k .2), k .3, b .draft .rows c .ahead (n .active)) }

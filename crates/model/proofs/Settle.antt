@@ -29,7 +29,8 @@ least-some (s ∷ t) zero e = by (least t) refl
   where
     by : (o : Option ℕ) → least t ≡ o →
         (v : ℕ) × (sooner (s .active) (s .virtual-time) (least t) ≡ Some v) × (v ≤ s .virtual-time)
-    by None f = (s .virtual-time, ap (λ (b : Bool). sooner b (s .virtual-time) (least t)) e ∙ ap (sooner true (s .virtual-time)) f, le-refl (s .virtual-time))
+    by None f =
+        (s .virtual-time, ap (λ (b : Bool). sooner b (s .virtual-time) (least t)) e ∙ ap (sooner true (s .virtual-time)) f, le-refl (s .virtual-time))
     by (Some w) f = let r = some-sooner (s .active) (s .virtual-time) w in (r .0, ap (sooner (s .active) (s .virtual-time)) f ∙ r .1, r .3 e)
 least-some (s ∷ t) (suc j) e =
     let r = least-some t j e in
@@ -72,7 +73,8 @@ mark-least m t u j e =
     (r .1 ∙ ap Some (sym f), omega (arith, f, r .2))
 
 row-up : (m n : ℕ) (s : Session) → Row m s → m ≤ n → (s .active ≡ true → n ≤ s .virtual-time) → Row n s
-row-up m n s r h a = record { priced = r .priced; bare = r .bare; near = omega (arith, r .near); ahead = a; quiet = r .quiet; frames = r .frames; room = r .room }
+row-up m n s r h a =
+    record { priced = r .priced; bare = r .bare; near = omega (arith, r .near); ahead = a; quiet = r .quiet; frames = r .frames; room = r .room }
 
 pub settle : (m : ℕ) (t u : Table) → Draft m u → Held m t u →
     ((j : ℕ) → at u j .active ≡ true → (waiting (at u j) || leads (at u j)) ≡ true) → Book (mark-after m t u) u

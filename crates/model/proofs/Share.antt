@@ -26,7 +26,8 @@ use Rattle.model.proofs.Tables.{at-past, at-le-total, total-but-one, total-but
 use Rattle.model.proofs.Ledger.{Row, Book, Move, Ran, excess}
 
 -- ---- the arithmetic at the two ends of a stretch
--- m, n: the mark before and after; v, u: the session's virtual time; x, y: the totals of all excesses; w bytes sent; b charged to the session; p its price, r its rate
+-- m, n: the mark before and after; v, u: the session's virtual time; x, y: the totals of all excesses; w bytes are sent, b are
+-- charged to the session; p is its price, r its rate
 
 -- somebody else has the smallest virtual time at the end
 other-ends : (m n v u x y w b p r : ℕ) → w * link + x + m * link ≤ n * link + y → u ≡ v + p * b → v ≤ m + longest * p →
@@ -145,18 +146,18 @@ ends i x y w s b f g a a′ h = by (least-reached (y .table) (y .mark) (g .lowes
         w ≤ at (x .table) i .price * b + longest * at (x .table) i .price + 62 * longest
     two k l e (yes same) =
         let e′ : at (y .table) i .virtual-time ≡ y .mark = ap (λ (j : ℕ). at (y .table) j .virtual-time) same ∙ e in
-        itself-ends (x .mark) (y .mark) (at (x .table) i .virtual-time) (at (y .table) i .virtual-time) (total (excess (x .mark)) (x .table)) (total (excess (y .mark)) (y .table)) w b (at (x .table) i .price) (at (x .table) i .rate) (link - at (x .table) i .rate)
-        (h .paid) (h .time) (f .draft .rows i .near) (f .draft .rows i .ahead act) (sym e′) (f .draft .rows i .priced (active-booked (x .mark) (at (x .table) i) (f .draft .rows i) act)) (omega (arith, few))
+        itself-ends _ _ _ _ _ _ _ _ _ _ (link - at (x .table) i .rate) (h .paid) (h .time) (f .draft .rows i .near) (f .draft .rows i .ahead act)
+        (sym e′) (f .draft .rows i .priced (active-booked (x .mark) (at (x .table) i) (f .draft .rows i) act)) (omega (arith, few))
         (at-le-total (excess (x .mark)) (x .table) i (able-within (x .table) i a))
         (let z = excess-none (y .mark) (at (y .table) i) e′ in
         omega (arith, total-but-one (excess (y .mark)) (longest * link) (y .table) i inside each, g .draft .size))
     two k l e (no n) =
-        other-ends (x .mark) (y .mark) (at (x .table) i .virtual-time) (at (y .table) i .virtual-time) (total (excess (x .mark)) (x .table)) (total (excess (y .mark)) (y .table)) w b (at (x .table) i .price) (at (y .table) i .rate)
-        (h .paid) (h .time) (f .draft .rows i .near) (g .draft .rows i .ahead act′) few′
+        other-ends _ _ _ _ _ _ _ _ _ (at (y .table) i .rate) (h .paid) (h .time) (f .draft .rows i .near) (g .draft .rows i .ahead act′) few′
         (let z = excess-none (y .mark) (at (y .table) k) e in
         omega (arith, total-but-two (excess (y .mark)) (longest * link) (y .table) i k inside l n each, g .draft .size))
 
-    by : (k : ℕ) × (k < length (y .table)) × (at (y .table) k .active ≡ true) × (at (y .table) k .virtual-time ≡ y .mark) → w ≤ at (x .table) i .price * b + longest * at (x .table) i .price + 62 * longest
+    by : (k : ℕ) × (k < length (y .table)) × (at (y .table) k .active ≡ true) × (at (y .table) k .virtual-time ≡ y .mark) →
+        w ≤ at (x .table) i .price * b + longest * at (x .table) i .price + 62 * longest
     by r = two (r .0) (r .1) (r .3) (ℕ-discrete i (r .0))
 
 -- ---- calls one after the other
@@ -186,11 +187,13 @@ charged-within l b s (inl h) = omega arith
 charged-within (pos n) b s (inr h) = omega (arith, ints)
 charged-within (negsuc n) b s (inr h) = omega (arith, ints)
 
--- `Fine` is whatever holds of a cell between calls: the accounts are in order, and each call keeps it and moves the accounts as `Move` says
+-- `Fine` is whatever holds of a cell between calls: the accounts are in order, and each call keeps it and moves the accounts as
+-- `Move` says
 module _ {C : Type 0} (M : Meaning C) (Fine : Cell C → Type 0)
     (book : (x : Cell C) → Fine x → Book (x .mark) (x .table))
     (stays : (x : Cell C) (k : Call) → Fine x → Fine (step M x k .cell))
-    (moves : (i : ℕ) (x : Cell C) (k : Call) → Fine x → Able M i x → Able M i (step M x k .cell) → (b : ℕ) × Move i x (step M x k .cell) (bytes (taken (step M x k .answer))) (bytes (taken-from i (step M x k .answer))) b) where
+    (moves : (i : ℕ) (x : Cell C) (k : Call) → Fine x → Able M i x → Able M i (step M x k .cell) →
+        (b : ℕ) × Move i x (step M x k .cell) (bytes (taken (step M x k .answer))) (bytes (taken-from i (step M x k .answer))) b) where
   pub stays-fine : (x : Cell C) (ks : List Call) → Fine x → Fine (after M x ks)
   unfolding after
   stays-fine x [] f = f
@@ -219,6 +222,8 @@ module _ {C : Type 0} (M : Meaning C) (Fine : Cell C → Type 0)
       sent M x ks ≤ at (x .table) i .price * (sent-by M i x ks + lead (at (x .table) i)) + longest * (2 * at (x .table) i .price + 62)
   share-from i x ks f a =
       let r = runs i x ks f a in
-      let e = ends i x (after M x ks) (sent M x ks) (sent-by M i x ks) (r .0) (book x f) (book (after M x ks) (stays-fine x ks f)) (first-of i x ks a) (last-of i x ks a) (r .1) in
+      let e =
+              ends i x (after M x ks) (sent M x ks) (sent-by M i x ks) (r .0) (book x f)
+              (book (after M x ks) (stays-fine x ks f)) (first-of i x ks a) (last-of i x ks a) (r .1) in
       let k = charged-within (at (x .table) i .lag) (r .0) (sent-by M i x ks) (r .1 .kept) in
       omega (arith, mul-le-mul-left (at (x .table) i .price) k)

@@ -79,7 +79,8 @@ total-but-two g b [] i k l m n h = absurd (omega arith)
 total-but-two g b (s ∷ t) zero zero l m n h = absurd (n refl)
 total-but-two g b (s ∷ t) zero (suc k) l m n h = omega (arith, total-but-one g b t k (omega arith) (λ j. h (suc j)))
 total-but-two g b (s ∷ t) (suc i) zero l m n h = omega (arith, total-but-one g b t i (omega arith) (λ j. h (suc j)))
-total-but-two g b (s ∷ t) (suc i) (suc k) l m n h = omega (arith, h 0, total-but-two g b t i k (omega arith) (omega arith) (λ e. n (ap suc e)) (λ j. h (suc j)))
+total-but-two g b (s ∷ t) (suc i) (suc k) l m n h =
+    omega (arith, h 0, total-but-two g b t i k (omega arith) (omega arith) (λ e. n (ap suc e)) (λ j. h (suc j)))
 
 -- a sum that rises by at most c times another
 pub total-drop : (f g r : Session → ℕ) (c : ℕ) (t : Table) → ((j : ℕ) → f (at t j) ≤ g (at t j) + c * r (at t j)) →

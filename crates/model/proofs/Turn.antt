@@ -73,7 +73,8 @@ charged-charges keep spent n = record {
 hands-charges : (keep n : ℕ) → Charges n (hands-on keep n)
 hands-charges keep n =
     let c = charged-charges keep 0 n in
-    record { booked = c .booked; rate = c .rate; price = c .price; active = c .active; time = c .time; frames = c .frames; room = c .room }
+    record { booked =
+        c .booked; rate = c .rate; price = c .price; active = c .active; time = c .time; frames = c .frames; room = c .room }
 
 -- ---- the ways a turn can go: one place changes, or two
 
@@ -105,7 +106,8 @@ module _ (keep n : ℕ) (t : Table) (c : ℕ) (P : Option ℕ → Table → Type
   each-way by-allowance r = alone quarters (omega arith) r
   each-way (by-credit q) r = handed q (record { ready = r .0; apart = apart-credit t c q r; led = r .2 })
   each-way unclaimed r = alone 0 (omega arith) r
-  each-way (by-extra q) r = handed q (record { ready = r .0; apart = apart-extra t c q r; led = λ a. absurd (both-ways (able (at t c)) (r .1) a) })
+  each-way (by-extra q) r =
+      handed q (record { ready = r .0; apart = apart-extra t c q r; led = λ a. absurd (both-ways (able (at t c)) (r .1) a) })
   each-way idle r = idles r
 
 -- no frame that is sent is longer than the longest
@@ -251,7 +253,8 @@ solo-part i m n keep spent t c k = by (ℕ-discrete c i)
         let a : at v i ≡ sends keep spent n (at t i) = subst (λ (j : ℕ). at v j ≡ sends keep spent n (at t j)) e (at-change t c (sends keep spent n) (k .inside)) in
         let s : cond (eqb c i) n 0 ≡ n = cond-true (eqb c i) n 0 (eq-eqb c i e) in
         let lg : at v i .lag ≡ at t i .lag = ap (λ (s : Session). s .lag) a in
-        (n, record { time = ap (λ (s : Session). s .virtual-time) a ∙ omega arith; lag = omega (arith, ints); given = inl (omega arith) })
+        (n, record { time =
+            ap (λ (s : Session). s .virtual-time) a ∙ omega arith; lag = omega (arith, ints); given = inl (omega arith) })
     by (no e) = (0, part-none i t v _ (at-other t c i (sends keep spent n) e))
 
 pair-part : (i keep m n : ℕ) (t : Table) (c q : ℕ) → Chosen m t c → Handed t c q → n ≤ longest → able (at t i) ≡ true →
@@ -277,12 +280,15 @@ pair-part i keep m n t c q k p l a = by (ℕ-discrete c i) (ℕ-discrete q i)
         let s : cond (eqb q i) n 0 ≡ 0 = cond-false (eqb q i) n 0 (ne-eqb q i f) in
         let lg : at v i .lag ≡ at t i .lag +ℤ pos n = ap (λ (s : Session). s .lag) d in
         let led = subst (λ (j : ℕ). able (at t j) ≡ true → leads (at t j) ≡ true) e (p .led) a in
-        (n, record { time = ap (λ (s : Session). s .virtual-time) d ∙ omega arith; lag = omega (arith, ints); given = inr (led, omega arith) })
+        (n, record { time =
+            ap (λ (s : Session). s .virtual-time) d ∙ omega arith; lag = omega (arith, ints); given = inr
+            (led, omega arith) })
     by (no e) (yes f) =
         let d : at v i ≡ takes-up n (at t i) = taken-at f ∙ ap (takes-up n) (at-other t c i (hands-on keep n) e) in
         let s : cond (eqb q i) n 0 ≡ n = cond-true (eqb q i) n 0 (eq-eqb q i f) in
         let lg : at v i .lag ≡ at t i .lag -ℤ pos n = ap (λ (s : Session). s .lag) d in
-        (0, record { time = ap (λ (s : Session). s .virtual-time) d ∙ omega arith; lag = omega (arith, ints); given = inl (omega arith) })
+        (0, record { time =
+            ap (λ (s : Session). s .virtual-time) d ∙ omega arith; lag = omega (arith, ints); given = inl (omega arith) })
     by (no e) (no f) = (0, part-none i t v _ (at-other u q i (takes-up n) f ∙ at-other t c i (hands-on keep n) e))
 
 -- ---- every way

@@ -46,7 +46,9 @@ module _ (keep m : ℕ) (t : Table) (c : ℕ) (w : Way) (n : ℕ) (b : Book m t)
 
   end-pays : total (excess m) end ≡ total (excess m) t + n * link
   unfolding departures
-  end-pays = depart-total (excess m) (λ n s. refl) (λ s. refl) (active-count (turned keep t c n w)) (turned keep t c n w) ∙ way-pays keep m n t c w k r (b .draft)
+  end-pays =
+      depart-total (excess m) (λ n s. refl) (λ s. refl) (active-count (turned keep t c n w)) (turned keep t c n w)
+      ∙ way-pays keep m n t c w k r (b .draft)
 
   pub turn-owes : owing end ≤ owing t + n
   unfolding departures
@@ -73,4 +75,6 @@ module _ (keep m : ℕ) (t : Table) (c : ℕ) (w : Way) (n : ℕ) (b : Book m t)
       (p .0, record { time = v ∙ p .1 .time; lag = omega (arith, ints); given = p .1 .given })
 
   pub turn-price : (i : ℕ) → at end i .price ≡ at t i .price
-  turn-price i = end-same (λ s. s .price) (λ n s. refl) (λ s. refl) i ∙ way-same keep m n t c w k r (λ s. s .price) (λ _ _. refl) (λ _. refl) (λ _. refl) (λ _. refl) i
+  turn-price i =
+      end-same (λ s. s .price) (λ n s. refl) (λ s. refl) i ∙ way-same keep m n t c w k r (λ s. s .price) (λ _ _. refl)
+      (λ _. refl) (λ _. refl) (λ _. refl) i

@@ -121,4 +121,6 @@ share-nothing r c (s ∷ t) = ap₂ (λ (s : Session) (t : Table). s ∷ t) (owe
 pub share-nobody : (lag c : ℕ) (t : Table) → share lag 0 c t ≡ t
 unfolding share
 share-nobody lag c [] = refl
-share-nobody lag c (s ∷ t) = ap₂ (λ (s : Session) (t : Table). s ∷ t) (owed-none _ s (omega (arith, div-zero (lag * (c + active-rate s))))) (share-nobody lag (c + active-rate s) t)
+share-nobody lag c (s ∷ t) =
+    ap₂ (λ (s : Session) (t : Table). s ∷ t) (owed-none _ s (omega (arith, div-zero (lag * (c + active-rate s)))))
+    (share-nobody lag (c + active-rate s) t)
