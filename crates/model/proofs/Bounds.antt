@@ -76,7 +76,8 @@ charged-low : (keep spent n b : ℕ) (s : Session) → keep ≤ quarters → spe
     Low b s → Low (b + dearest) (charged keep spent n s)
 charged-low keep spent n b s k p d h = (
   omega (arith, h .0, d),
-  cond-both (leads s) (s .allowance +ℤ pos (keep * (n * s .price)) -ℤ pos (spent * (n * s .price))) (s .allowance) (λ z. natAbs z ≤ quarters * (b + dearest))
+  cond-both (leads s) (s .allowance +ℤ pos (keep * (n * s .price)) -ℤ pos (spent * (n * s .price))) (s .allowance)
+      (λ z. natAbs z ≤ quarters * (b + dearest))
       (λ _. let f =
           abs-moves (s .allowance) (keep * (n * s .price)) (spent * (n * s .price)) (quarters * dearest) (quarters * b)
           (h .1) (mul-le-mul k d) (mul-le-mul p d) in omega arith)
@@ -85,7 +86,8 @@ charged-low keep spent n b s k p d h = (
 
 takes-low : (n b : ℕ) (s : Session) → Low b s → Low b (takes-up n s)
 takes-low n b s h =
-    (h .0, cond-both (not (leads s) && ltZ (s .lag -ℤ pos n) (pos 0)) (pos 0) (s .allowance) (λ z. natAbs z ≤ quarters * b) (λ _. omega arith) (λ _. h .1))
+    (h .0, cond-both (not (leads s) && ltZ (s .lag -ℤ pos n) (pos 0)) (pos 0) (s .allowance)
+    (λ z. natAbs z ≤ quarters * b) (λ _. omega arith) (λ _. h .1))
 
 low-more : (b : ℕ) (s : Session) → Low b s → Low (b + dearest) s
 low-more b s h = omega (arith, h .0, h .1)
@@ -103,7 +105,8 @@ module _ (keep n b : ℕ) (t : Table) (c : ℕ) (k : keep ≤ quarters) (d : n *
   pair-low : (q j : ℕ) → Low (b + dearest) (at (change (change t c (hands-on keep n)) q (takes-up n)) j)
   pair-low q =
       let given = one-low (hands-on keep n) (charge-low 0 (omega arith)) in
-      each-change (Low (b + dearest)) (change t c (hands-on keep n)) q (takes-up n) given (takes-low n (b + dearest) (at (change t c (hands-on keep n)) q) (given q))
+      let u = change t c (hands-on keep n) in
+      each-change (Low (b + dearest)) u q (takes-up n) given (takes-low n (b + dearest) (at u q) (given q))
 
   pub turned-low : (w : Way) (j : ℕ) → Low (b + dearest) (at (turned keep t c n w) j)
   unfolding turned
@@ -163,7 +166,8 @@ module _ {C : Type 0} (M : Meaning C) (law : Lawful M) where
       (λ p r _ _ _ _. calm-within x p (λ _. fresh r (price-of r)) _ w (omega arith))
       (λ p _ _ _ _. calm-within x p (λ _. vacant) _ w (omega arith))
       (λ p g n _ _ _ _ _. calm-within x p (arrived (x .mark) (record { tag = g; length = n })) _ w
-          (cond-both (at (x .table) p .active) (at (x .table) p .virtual-time) (max (at (x .table) p .virtual-time) (x .mark)) (λ v. v ≤ dearest * x .turns)
+          (cond-both (at (x .table) p .active) (at (x .table) p .virtual-time) (max (at (x .table) p .virtual-time) (x .mark))
+              (λ v. v ≤ dearest * x .turns)
               (λ _. w .rows p .0) (λ _. omega (arith, w .rows p .0, w .mark)), w .rows p .1))
       (λ p b _ _. calm-within x p (with-good b) _ w (w .rows p))
       (λ c e _. turn-within x c s w e)

@@ -32,7 +32,8 @@ pub record Calm (m : ℕ) (s s′ : Session) : Type 0 where
   pub busy : s′ .active ≡ true → (waiting s′ || leads s′) ≡ true
   pub kept : able s ≡ true → (s′ .price ≡ s .price) × (s′ .virtual-time ≡ s .virtual-time)
 
-module _ (m : ℕ) (t : Table) (p : ℕ) (f : Session → Session) (inside : p < length t) (b : Book m t) (k : Calm m (at t p) (f (at t p))) (few : booked-total (change t p f) ≤ link) where
+module _ (m : ℕ) (t : Table) (p : ℕ) (f : Session → Session) (inside : p < length t) (b : Book m t)
+    (k : Calm m (at t p) (f (at t p))) (few : booked-total (change t p f) ≤ link) where
   -- what holds of each place as it was, and of the one that is changed, holds after
   after-change : (P : ℕ → Session → Type 0) → P p (f (at t p)) → ((j : ℕ) → P j (at t j)) → (j : ℕ) →
       P j (at (change t p f) j)
@@ -68,7 +69,8 @@ module _ (m : ℕ) (t : Table) (p : ℕ) (f : Session → Session) (inside : p <
       omega arith
 
   pub calm-kept : (i : ℕ) → able (at t i) ≡ true →
-      (at (change t p f) i .price ≡ at t i .price) × (at (change t p f) i .virtual-time ≡ at t i .virtual-time) × (at (change t p f) i .lag ≡ at t i .lag)
+      (at (change t p f) i .price ≡ at t i .price) × (at (change t p f) i .virtual-time ≡ at t i .virtual-time) ×
+      (at (change t p f) i .lag ≡ at t i .lag)
   calm-kept =
       after-change
       (λ j s. able (at t j) ≡ true → (s .price ≡ at t j .price) × (s .virtual-time ≡ at t j .virtual-time) × (s .lag ≡ at t j .lag))
@@ -102,7 +104,15 @@ open-calm m r s row b e = record {
     none k = let z : 0 - m ≡ 0 = omega arith in ap (λ (j : ℕ). j * k) z ∙ zero-mul k
 
 pub vacant-row : (m : ℕ) → Row m vacant
-vacant-row m = record { priced = λ e. absurd (false≢true e); bare = λ _. refl; near = omega arith; ahead = λ e. absurd (false≢true e); quiet = λ _. (refl, refl); frames = tt; room = omega arith }
+vacant-row m = record {
+  priced = λ e. absurd (false≢true e);
+  bare = λ _. refl;
+  near = omega arith;
+  ahead = λ e. absurd (false≢true e);
+  quiet = λ _. (refl, refl);
+  frames = tt;
+  room = omega arith;
+}
 
 pub close-calm : (m : ℕ) (s : Session) → Row m s → s .active ≡ false → s .virtual-time ≤ m → Calm m s vacant
 close-calm m s row e v =

@@ -34,9 +34,11 @@ module _ {C : Type 0} (M : Meaning C) (x : Cell C) (size : length (x .table) ≡
     (refused : (call : Call) (why : Refusal) → P call (record { cell = x; answer = Err why }))
     (opens : (p r : ℕ) → p < length (x .table) → at (x .table) p .booked ≡ false → in-tariff r ≡ true → booked-total (x .table) + r ≤ link →
         P (opening p r) (accepted M x (opening p r)))
-    (closes : (p : ℕ) → p < length (x .table) → at (x .table) p .booked ≡ true → at (x .table) p .active ≡ false → at (x .table) p .virtual-time ≤ x .mark →
+    (closes : (p : ℕ) → p < length (x .table) → at (x .table) p .booked ≡ true → at (x .table) p .active ≡ false →
+        at (x .table) p .virtual-time ≤ x .mark →
         P (closing p) (accepted M x (closing p)))
-    (arrives : (p g n : ℕ) → p < length (x .table) → at (x .table) p .booked ≡ true → 0 < n → n ≤ longest → length (at (x .table) p .queue) < most-waiting →
+    (arrives : (p g n : ℕ) → p < length (x .table) → at (x .table) p .booked ≡ true → 0 < n → n ≤ longest →
+        length (at (x .table) p .queue) < most-waiting →
         P (arrival p g n) (accepted M x (arrival p g n)))
     (reports : (p : ℕ) (b : Bool) → p < length (x .table) → at (x .table) p .booked ≡ true → P (report p b) (accepted M x (report p b)))
     (turns : (c : ℕ) → chosen (x .table) ≡ Some c → x .turns < most-turns → P turn (turn-of M x c)) where
@@ -53,7 +55,8 @@ module _ {C : Type 0} (M : Meaning C) (x : Cell C) (size : length (x .table) ≡
       (ltb-false (x .mark) (at (x .table) p .virtual-time) (h .1 .1 .1 .0))
   accepts (arrival p g n) h =
       let o = or-parts (eqb n 0) (ltb longest n) (h .1 .1 .0) in
-      arrives p g n (inside p (h .0)) (not-false (at (x .table) p .booked) (h .1 .0)) (omega (arith, eqb-false n 0 (o .0))) (ltb-false longest n (o .1))
+      arrives p g n (inside p (h .0)) (not-false (at (x .table) p .booked) (h .1 .0))
+      (omega (arith, eqb-false n 0 (o .0))) (ltb-false longest n (o .1))
       (leb-false most-waiting (length (at (x .table) p .queue)) (h .1 .1 .1 .0))
   accepts (report p b) h = reports p b (inside p (h .0)) (not-false (at (x .table) p .booked) (h .1 .0))
   accepts turn h =

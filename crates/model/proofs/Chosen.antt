@@ -69,7 +69,8 @@ chosen-some t e = by (least t) refl e
     hit : (v : ℕ) → least t ≡ Some v → (o : Option ℕ) → first (due v) t ≡ o → (c : ℕ) × (o ≡ Some c)
     hit v f (Some c) g = (c, refl)
     hit v f None g =
-        let r = least-reached t v f in absurd (both-ways (due v (at t (r .0))) (first-none (due v) t refl g (r .0)) (due-from v (at t (r .0)) (r .2) (r .3)))
+        let r = least-reached t v f in
+        absurd (both-ways (due v (at t (r .0))) (first-none (due v) t refl g (r .0)) (due-from v (at t (r .0)) (r .2) (r .3)))
 
     by : (o : Option ℕ) → least t ≡ o → is-none o ≡ false → (c : ℕ) × (chosen-at t o ≡ Some c)
     by None f g = absurd (true≢false g)

@@ -73,7 +73,7 @@ parts l r c e (s ∷ t) h =
     let f = parts l r (c + active-rate s) e t (omega arith) in
     let low : l * c / r ≤ l * (c + active-rate s) / r = div-mono r (mul-le-mul-left l (omega arith)) in
     let high : l * (c + active-rate s) / r ≤ l * e / r = div-mono r (mul-le-mul-left l (omega arith)) in
-    joined (s .lag) (totalℤ (λ s. s .lag) t) (totalℤ (λ s. s .lag) (share l r (c + active-rate s) t)) (l * c / r) (l * (c + active-rate s) / r) (l * e / r) f low high
+    joined (s .lag) _ _ _ _ _ f low high
   where
     joined : (a b d : ℤ) (x y z : ℕ) → d ≡ b +ℤ pos (z - y) → x ≤ y → y ≤ z →
         (a +ℤ pos (y - x)) +ℤ d ≡ (a +ℤ b) +ℤ pos (z - x)
@@ -217,7 +217,8 @@ module _ (t : Table) (k : ℕ) (inside : k < length t) (goes : departing (at t k
       size = length-share (lost t k) (rates-left t k) 0 (less t k) ∙ length-change t k gone ∙ d .size;
       rates =
           omega
-          (arith, total-share (λ s. s .rate) (λ n s. refl) (lost t k) (rates-left t k) 0 (less t k), total-same (λ s. s .rate) t k gone refl, d .rates);
+          (arith, total-share (λ s. s .rate) (λ n s. refl) (lost t k) (rates-left t k) 0 (less t k),
+          total-same (λ s. s .rate) t k gone refl, d .rates);
       balance =
           parts (lost t k) (rates-left t k) 0 (rates-left t k) (less t k) (zero-add (rates-left t k))
           ∙ ap (λ (n : ℕ). totalℤ (λ s. s .lag) (less t k) +ℤ pos n) (whole (lost t k) (rates-left t k) nobody-left)
@@ -263,7 +264,10 @@ module _ (t : Table) (k : ℕ) (inside : k < length t) (goes : departing (at t k
   unfolding departed
   departed-waits j w =
       let r = share-at (lost t k) (rates-left t k) 0 (less t k) j in
-      (r .0, r .1 ∙ ap (owed (r .0)) (at-other t k j gone (λ e. both-ways (waiting (at t j)) (subst (λ (j : ℕ). waiting (at t j) ≡ false) e (departs (at t k) goes .1)) w)))
+      (r .0, r .1 ∙ ap (owed (r .0)) (at-other t k j gone other))
+    where
+      other : k ≡ j → ⊥
+      other e = both-ways (waiting (at t j)) (subst (λ (j : ℕ). waiting (at t j) ≡ false) e (departs (at t k) goes .1)) w
 
   -- what does not read lag or status
   departed-same : {X : Type 0} (g : Session → X) → ((n : ℕ) (s : Session) → g (owed n s) ≡ g s) →
@@ -371,7 +375,9 @@ depart-ends zero t h = first-never departing t (λ j. quiet j)
       where
         by : (at t j .active ≡ true) ⊎ (at t j .active ≡ false) → departing (at t j) ≡ false
         by (inl e) =
-            let z = total-zero (λ s. one-if (s .active)) t (omega arith) refl j in let o : one-if (at t j .active) ≡ 1 = ap one-if e in absurd (omega arith)
+            let z = total-zero (λ s. one-if (s .active)) t (omega arith) refl j in
+            let o : one-if (at t j .active) ≡ 1 = ap one-if e in
+            absurd (omega arith)
         by (inr e) = ap (λ (b : Bool). b && (not (waiting (at t j)) && not (leads (at t j)))) e
 depart-ends (suc n) t h = by (first departing t) refl (λ u g. depart-ends n u g)
   where

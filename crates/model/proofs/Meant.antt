@@ -10,7 +10,8 @@ use Rattle.chooser.specs.declared.offer.Offer.{Offer}
 use Rattle.model.specs.Lists.{Line}
 use Rattle.model.specs.Meaning.{Lawful, if-sound, meaning}
 
-pub lawful : {C : Type 0} (pick : C → Line → Offer → Option ℕ) (served : C → Line → ℕ → ℕ → ℕ → C) (joined : C → Line → ℕ → Offer → C) (cleared : C → ℕ → C) →
+pub lawful : {C : Type 0} (pick : C → Line → Offer → Option ℕ) (served : C → Line → ℕ → ℕ → ℕ → C)
+    (joined : C → Line → ℕ → Offer → C) (cleared : C → ℕ → C) →
     ((c : C) (l : Line) (o : Offer) → Picks-offered (o .entries) (pick c l o)) →
         Lawful (meaning pick served joined cleared)
 lawful pick served joined cleared law c l es h = by (sound es) refl

@@ -49,7 +49,8 @@ takes i t q f a h = by (ℕ-discrete q i)
     at-q : at t q .queue ≡ out q t (Some q) ++ at (change t q f) q .queue
     at-q =
         let b = cond-true (eqb q q) (front (at t q .queue) ∷ []) [] (eq-eqb q q refl) in
-        let c : at (change t q f) q .queue ≡ rest (at t q .queue) = ap (λ (s : Session). s .queue) (at-change t q f (able-within t q a)) ∙ h (at t q) in
+        let c : at (change t q f) q .queue ≡ rest (at t q .queue) =
+                ap (λ (s : Session). s .queue) (at-change t q f (able-within t q a)) ∙ h (at t q) in
         front-and-rest (at t q .queue) waits ∙ sym (ap₂ (λ (x y : List Frame). x ++ y) b c)
 
     by : Dec (q ≡ i) → at t i .queue ≡ out i t (Some q) ++ at (change t q f) i .queue
@@ -176,7 +177,8 @@ module _ {C : Type 0} (M : Meaning C) (law : Lawful M) where
       let w = decide M x c in
       let u = turned (x .keep) (x .table) c (length-of (x .table) (sender c w)) w in
       way-takes i (x .keep) (length-of (x .table) (sender c w)) (x .table) c w (decides M law x c s)
-      ∙ sym (ap (λ (fs : List Frame). out i (x .table) (sender c w) ++ fs) (depart-same (λ s. s .queue) (λ n s. refl) (λ s. refl) (active-count u) u i))
+      ∙ sym (ap (λ (fs : List Frame). out i (x .table) (sender c w) ++ fs)
+      (depart-same (λ s. s .queue) (λ n s. refl) (λ s. refl) (active-count u) u i))
 
   pub step-queued : (x : Cell C) (call : Call) (i : ℕ) → Ordered x → Queued x i call (step M x call)
   unfolding accepted settled
@@ -202,7 +204,8 @@ module _ {C : Type 0} (M : Meaning C) (law : Lawful M) where
       (λ _ _ _ _ _. none)
       (λ _ _ _ _ _ _ _ _. none)
       (λ _ _ _ _. none)
-      (λ c e _. sent-adds places (x .table) (sender c (decide M x c)) (λ q f. omega (arith, sender-inside (x .table) c (decide M x c) (decides M law x c s) q f, s .book .draft .size)))
+      (λ c e _. sent-adds places (x .table) (sender c (decide M x c))
+          (λ q f. omega (arith, sender-inside (x .table) c (decide M x c) (decides M law x c s) q f, s .book .draft .size)))
       call
     where
       none : 0 ≡ sum-to places (λ i. 0)
@@ -210,7 +213,8 @@ module _ {C : Type 0} (M : Meaning C) (law : Lawful M) where
 
   -- the bytes of one queue, over a call
   pub step-counts : (x : Cell C) (call : Call) (i : ℕ) → Ordered x →
-      bytes (at (x .table) i .queue) + bytes (brought-to i call (step M x call .answer)) ≡ bytes (taken-from i (step M x call .answer)) + bytes (at (step M x call .cell .table) i .queue)
+      let o = step M x call in
+      bytes (at (x .table) i .queue) + bytes (brought-to i call (o .answer)) ≡ bytes (taken-from i (o .answer)) + bytes (at (o .cell .table) i .queue)
   step-counts x call i s =
-      sym (bytes-append (at (x .table) i .queue) _) ∙ ap bytes (step-queued x call i s) ∙ bytes-append
-      (taken-from i (step M x call .answer)) _
+      sym (bytes-append (at (x .table) i .queue) _) ∙ ap bytes (step-queued x call i s)
+      ∙ bytes-append (taken-from i (step M x call .answer)) _

@@ -62,11 +62,13 @@ rightly : (t : Table) (s : Session) (a l b : Bool) (p q : Option ℕ) → able s
     Picks-offered (offer Credit t) p → Picks-offered (offer Extra t) q → Rightly t s (way a l b p q)
 rightly t s true false b p q e f g h = e
 rightly t s true true true p q e f g h = e
-rightly t s true true false (Some j) q e f g h = let r = and-parts (able (at t j)) (lags (at t j)) (sym (offered-is Credit t j) ∙ g) in (r .0, r .1, λ _. f)
+rightly t s true true false (Some j) q e f g h =
+    let r = and-parts (able (at t j)) (lags (at t j)) (sym (offered-is Credit t j) ∙ g) in (r .0, r .1, λ _. f)
 rightly t s true true false None q e f g h = e
 rightly t s false l b (Some j) q e f g h =
     let r = and-parts (able (at t j)) (lags (at t j)) (sym (offered-is Credit t j) ∙ g) in (r .0, r .1, λ a. absurd (both-ways (able s) e a))
-rightly t s false l b None (Some j) e f g h = let r = and-parts (able (at t j)) (not (lags (at t j))) (sym (offered-is Extra t j) ∙ h) in (r .0, e)
+rightly t s false l b None (Some j) e f g h =
+    let r = and-parts (able (at t j)) (not (lags (at t j))) (sym (offered-is Extra t j) ∙ h) in (r .0, e)
 rightly t s false l b None None e f g h =
     λ j. neither (able (at t j)) (lags (at t j)) (sym (offered-is Credit t j) ∙ g j) (sym (offered-is Extra t j) ∙ h j)
 
@@ -129,7 +131,8 @@ unfolding at all-sound stayed
 all-stayed l [] t h = refl
 all-stayed l (b ∷ bs) [] h = refl
 all-stayed l (b ∷ bs) (s ∷ t) h =
-    and-from (sound-entry (entry (b && in-line l s) s)) (all-sound (stayed l bs t)) (h 0 (b && in-line l s) (λ e. line-able l s (and-parts b (in-line l s) e .1))) (all-stayed l bs t (λ j. h (suc j)))
+    and-from (sound-entry (entry (b && in-line l s) s)) (all-sound (stayed l bs t))
+    (h 0 (b && in-line l s) (λ e. line-able l s (and-parts b (in-line l s) e .1))) (all-stayed l bs t (λ j. h (suc j)))
 
 module _ {C : Type 0} (x : Cell C) (o : Ordered x) where
   offerable : (j : ℕ) → Offerable (at (x .table) j)
@@ -149,7 +152,8 @@ module _ {C : Type 0} (x : Cell C) (o : Ordered x) where
   pub sound-stayed : (l : Line) (bs : List Bool) → length bs ≡ places → sound (stayed l bs (x .table)) ≡ true
   sound-stayed l bs e =
       and-from (eqb (length (stayed l bs (x .table))) 64) (all-sound (stayed l bs (x .table)))
-      (eq-eqb (length (stayed l bs (x .table))) 64 (length-stayed l bs (x .table) (e ∙ sym (o .book .draft .size)) ∙ o .book .draft .size)) (all-stayed l bs (x .table) offerable)
+      (eq-eqb (length (stayed l bs (x .table))) 64 (length-stayed l bs (x .table) (e ∙ sym (o .book .draft .size)) ∙ o .book .draft .size))
+      (all-stayed l bs (x .table) offerable)
 
 pub decides : {C : Type 0} (M : Meaning C) → Lawful M → (x : Cell C) (c : ℕ) → Ordered x →
     Rightly (x .table) (at (x .table) c) (decide M x c)

@@ -79,7 +79,12 @@ row-up m n s r h a =
 pub settle : (m : ℕ) (t u : Table) → Draft m u → Held m t u →
     ((j : ℕ) → at u j .active ≡ true → (waiting (at u j) || leads (at u j)) ≡ true) → Book (mark-after m t u) u
 settle m t u d h b = record {
-  draft = record { size = d .size; rows = λ j. row-up m (mark-after m t u) (at u j) (d .rows j) (mark-rises m t u d h) (λ a. mark-least m t u j a .1); rates = d .rates; balance = d .balance };
+  draft = record {
+    size = d .size;
+    rows = λ j. row-up m (mark-after m t u) (at u j) (d .rows j) (mark-rises m t u d h) (λ a. mark-least m t u j a .1);
+    rates = d .rates;
+    balance = d .balance;
+  };
   busy = b;
   lowest = λ j a. mark-least m t u j a .0;
 }

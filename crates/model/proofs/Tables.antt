@@ -121,7 +121,10 @@ first-before p (s ∷ t) k e j l = by (cases-bool (p s)) (λ i h j l. first-befo
   where
     by : (p s ≡ true) ⊎ (p s ≡ false) → ((i : ℕ) → first p t ≡ Some i → (j : ℕ) → j < i → p (at t j) ≡ false) →
         (j : ℕ) → j < k → p (at (s ∷ t) j) ≡ false
-    by (inl h) ih j l = let z : Some 0 ≡ Some k = sym (cond-true (p s) (Some 0) (next (first p t)) h) ∙ e in let y : 0 ≡ k = cc in absurd (omega arith)
+    by (inl h) ih j l =
+        let z : Some 0 ≡ Some k = sym (cond-true (p s) (Some 0) (next (first p t)) h) ∙ e in
+        let y : 0 ≡ k = cc in
+        absurd (omega arith)
     by (inr h) ih zero l = h
     by (inr h) ih (suc j) l = after (some-0 (p s) (first p t) k e)
       where

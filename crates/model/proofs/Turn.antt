@@ -188,8 +188,10 @@ module _ (keep m n : ℕ) (t : Table) (c q : ℕ) (k : Chosen m t c) (p : Handed
     size = length-change given q (takes-up n) ∙ length-change t c (hands-on keep n) ∙ d .size;
     rows =
         each-change (Row m) given q (takes-up n)
-        (each-change (Row m) t c (hands-on keep n) (d .rows) (row-charged m n (at t c) (hands-on keep n) (hands-charges keep n) l (k .active) (k .level) (d .rows c)))
-        (subst (λ (s : Session). Row m (takes-up n s)) (sym same) (row-takes m n (at t q) (able-active m (at t q) (d .rows q) (p .ready)) (d .rows q)));
+        (each-change (Row m) t c (hands-on keep n) (d .rows)
+        (row-charged m n (at t c) (hands-on keep n) (hands-charges keep n) l (k .active) (k .level) (d .rows c)))
+        (subst (λ (s : Session). Row m (takes-up n s)) (sym same)
+        (row-takes m n (at t q) (able-active m (at t q) (d .rows q) (p .ready)) (d .rows q)));
     rates =
         omega (arith, total-same (λ s. s .rate) given q (takes-up n) refl, total-same (λ s. s .rate) t c (hands-on keep n) refl, d .rates);
     balance =
@@ -250,7 +252,8 @@ solo-part i m n keep spent t c k = by (ℕ-discrete c i)
 
     by : Dec (c ≡ i) → (b : ℕ) × Part i t v (named i n (Some c)) b
     by (yes e) =
-        let a : at v i ≡ sends keep spent n (at t i) = subst (λ (j : ℕ). at v j ≡ sends keep spent n (at t j)) e (at-change t c (sends keep spent n) (k .inside)) in
+        let a : at v i ≡ sends keep spent n (at t i) =
+                subst (λ (j : ℕ). at v j ≡ sends keep spent n (at t j)) e (at-change t c (sends keep spent n) (k .inside)) in
         let s : cond (eqb c i) n 0 ≡ n = cond-true (eqb c i) n 0 (eq-eqb c i e) in
         let lg : at v i .lag ≡ at t i .lag = ap (λ (s : Session). s .lag) a in
         (n, record { time =
@@ -316,8 +319,9 @@ module _ (keep m n : ℕ) (t : Table) (c : ℕ) (w : Way) (k : Chosen m t c) (r 
       (λ _. solo-owes n t c (charged keep 0 n) (λ s. refl)) w r
 
   -- what neither a charge nor a payment changes: status and price
-  pub way-same : {X : Type 0} (g : Session → X) → ((p : ℕ) (s : Session) → g (sends keep p n s) ≡ g s) → ((s : Session) → g (hands-on keep n s) ≡ g s) →
-      ((s : Session) → g (takes-up n s) ≡ g s) → ((s : Session) → g (charged keep 0 n s) ≡ g s) → (j : ℕ) → g (at (turned keep t c n w) j) ≡ g (at t j)
+  pub way-same : {X : Type 0} (g : Session → X) → ((p : ℕ) (s : Session) → g (sends keep p n s) ≡ g s) →
+      ((s : Session) → g (hands-on keep n s) ≡ g s) → ((s : Session) → g (takes-up n s) ≡ g s) →
+      ((s : Session) → g (charged keep 0 n s) ≡ g s) → (j : ℕ) → g (at (turned keep t c n w) j) ≡ g (at t j)
   way-same g a b d e j =
       each-way keep n t c (λ _ v. g (at v j) ≡ g (at t j))
       (λ p _ _. change-same g t c (sends keep p n) (a p) j)

@@ -76,7 +76,8 @@ module _ {C : Type 0} (M : Meaning C) (law : Lawful M) (x : Cell C) (b : Sound x
   turn-low =
       let k = chosen-is (x .mark) (x .table) c (ordered-of x b .book) e in
       let d = charge-low b c (length-of (x .table) (sender c (decide M x c))) (k .active) turn-length in
-      turned-low (x .keep) (length-of (x .table) (sender c (decide M x c))) (dearest * x .turns) (x .table) c (b .modest) d (within-of x b .rows) (decide M x c)
+      turned-low (x .keep) (length-of (x .table) (sender c (decide M x c))) (dearest * x .turns) (x .table) c
+      (b .modest) d (within-of x b .rows) (decide M x c)
 
   -- the table before the departures
   pub turn-midway : x .turns < most-turns →
