@@ -180,11 +180,19 @@ midway-of m most t d o = record {
 
 -- a session that has no frame and does not lead departs
 module _ (t : Table) (k : ℕ) (inside : k < length t) (goes : departing (at t k) ≡ true) where
-  lag-less : totalℤ (λ s. s .lag) t ≡ pos 0 → totalℤ (λ s. s .lag) (less t k) +ℤ pos (lost t k) ≡ pos 0
-  lag-less c =
+  lag-less : totalℤ (λ s. s .lag) (less t k) +ℤ pos (lost t k) ≡ totalℤ (λ s. s .lag) t
+  lag-less =
       let a = totalℤ-change (λ s. s .lag) t k gone inside in
       let b = above-is (at t k .lag) (departs (at t k) goes .2) in
       omega (arith, ints)
+
+  -- what it was owed is handed out whole, unless nobody is left to have it
+  pub departed-sum : (rates-left t k ≡ 0 → lost t k ≡ 0) → totalℤ (λ s. s .lag) (departed t (Some k)) ≡ totalℤ (λ s. s .lag) t
+  unfolding departed
+  departed-sum h =
+      parts (lost t k) (rates-left t k) 0 (rates-left t k) (less t k) (zero-add (rates-left t k))
+      ∙ ap (λ (n : ℕ). totalℤ (λ s. s .lag) (less t k) +ℤ pos n) (whole (lost t k) (rates-left t k) h)
+      ∙ lag-less
 
   -- no more is owed than before
   departed-owes : owing (departed t (Some k)) ≤ owing t
@@ -208,7 +216,7 @@ module _ (t : Table) (k : ℕ) (inside : k < length t) (goes : departing (at t k
         let z =
                 totalℤ-none (λ s. s .lag) (less t k)
                 (λ j. quiet-less j (rate-counts (at (less t k) j) (counted-less j) (total-zero active-rate (less t k) e refl j))) in
-        let a = lag-less (d .balance) in
+        let a = lag-less ∙ d .balance in
         omega (arith, ints)
 
     departed-midway : Midway most (departed t (Some k))
@@ -219,10 +227,7 @@ module _ (t : Table) (k : ℕ) (inside : k < length t) (goes : departing (at t k
           omega
           (arith, total-share (λ s. s .rate) (λ n s. refl) (lost t k) (rates-left t k) 0 (less t k),
           total-same (λ s. s .rate) t k gone refl, d .rates);
-      balance =
-          parts (lost t k) (rates-left t k) 0 (rates-left t k) (less t k) (zero-add (rates-left t k))
-          ∙ ap (λ (n : ℕ). totalℤ (λ s. s .lag) (less t k) +ℤ pos n) (whole (lost t k) (rates-left t k) nobody-left)
-          ∙ lag-less (d .balance);
+      balance = departed-sum nobody-left ∙ d .balance;
       owing = le-trans departed-owes (d .owing);
       quiet =
           λ j. let r = given j in subst (λ (s : Session). s .active ≡ false → s .lag ≡ pos 0) (sym (r .1))

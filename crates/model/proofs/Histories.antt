@@ -28,7 +28,7 @@ use Rattle.model.specs.Turn.{Way, by-right, by-allowance, by-credit, unclaimed
 use Rattle.model.specs.Cell.{Cell, settled}
 use Rattle.model.specs.Calls.{Call, opening, closing, arrival, report, turn, refusal, Outcome, decide, turn-after, accepted, outcome, step, new}
 use Rattle.model.specs.History.{sent-from, taken-from, brought-to, frame-of, bytes, sum-to, after, sent, sent-by, brought, Throughout}
-use Rattle.model.specs.Promises.{Gets-its-share, Idles-only-if-none-able, Chooses-the-least-advanced, Says-who-sent, Says-when-idle, Keeps-the-queues, Sends-what-it-says, Counts-every-byte, Always-balanced, Active-exactly-when, Refuses-without-trace, Mark-never-falls, Closing-sheds-nothing, Stays-within, Keeps-its-books, Promises}
+use Rattle.model.specs.Promises.{Gets-its-share, Idles-only-if-none-able, Chooses-the-least-advanced, Says-who-sent, Says-when-idle, Keeps-the-queues, Sends-what-it-says, Counts-every-byte, Always-balanced, Active-exactly-when, Refuses-without-trace, Refuses-in-order, Mark-never-falls, Closing-sheds-nothing, Stays-within, Keeps-its-books, Promises}
 use Rattle.model.proofs.Ledger.{Ordered}
 use Rattle.model.proofs.Share.{share-from}
 use Rattle.model.proofs.Chosen.{chosen-next}
@@ -272,6 +272,13 @@ module _ {C : Type 0} (M : Meaning C) (law : Lawful M) where
           accepts (report p b) g = not-refused Done why (sym g)
           accepts turn g = not-refused _ why (sym g)
 
+  pub in-order : Refuses-in-order M
+  in-order x (opening p r) = refl
+  in-order x (closing p) = refl
+  in-order x (arrival p g n) = refl
+  in-order x (report p b) = refl
+  in-order x turn = refl
+
   pub mark-rises : Mark-never-falls M
   mark-rises keep c ks more = rises (after M (new keep c) ks) more (reached keep c ks)
 
@@ -309,6 +316,7 @@ module _ {C : Type 0} (M : Meaning C) (law : Lawful M) where
     balance = balanced;
     status = status;
     refuses = refuses;
+    order = in-order;
     mark = mark-rises;
     sheds = sheds-nothing;
     within = stays-within;

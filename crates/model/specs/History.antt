@@ -89,7 +89,8 @@ module _ {C : Type 0} (M : Meaning C) where
   Always P x [] = P x
   Always P x (k ∷ ks) = P x × Always P (step M x k .cell) ks
 
-  -- something holds in every history of a new cell, whatever its keep and in whatever state its chooser: at first, and after any calls
+  -- something holds in every history of a new cell, whatever its keep and in whatever state its chooser: at first, and after
+  -- any calls
   abbrev pub Throughout : (Cell C → Type 0) → Type 0
   Throughout P = (keep : ℕ) (c : C) (calls : List Call) → P (after (new keep c) calls)
 

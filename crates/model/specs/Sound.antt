@@ -1,4 +1,5 @@
--- The books of a cell are in order: what holds before the first call and after each. From it follows how large every number can get.
+-- The books of a cell are in order: what holds before the first call and after each. From it follows how large every number
+-- can get.
 use Prim.Native.Nat.{ℕ, _+_, _*_, _≤_, _<_}
 use mathlib.Core.Path.{_≡_}
 use mathlib.Core.Bool.{true, false, _||_}
@@ -27,7 +28,7 @@ pub record Orderly (mark turns : ℕ) (s : Session) : Type 0 where
   pub frames : All Fits (s .queue)
   pub room : length (s .queue) ≤ most-waiting
 
--- all places together; what the lagging sessions are owed is bounded by their sum, since a departing lag can go whole to one of them
+-- all places together; it is the sum of the lags above zero that is bounded, since a departing lag can go whole to one session
 pub record Books (keep mark turns : ℕ) (t : Table) : Type 0 where
   pub size : length t ≡ places
   pub rows : (j : ℕ) → Orderly mark turns (at t j)
