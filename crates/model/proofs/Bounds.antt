@@ -17,7 +17,8 @@ use Rattle.model.specs.Limits.{longest, quarters, dearest}
 use Rattle.model.specs.Session.{Session, vacant, fresh, with-good, leads}
 use Rattle.model.specs.Table.{Table, at, change, least, greatest, none-active, active-count, chosen}
 use Rattle.model.specs.Meaning.{Meaning, Lawful}
-use Rattle.model.specs.Turn.{Way, by-right, by-allowance, by-credit, unclaimed, by-extra, idle, sender, length-of, charged, sends, hands-on, takes-up, turned}
+use Rattle.model.specs.Turn.{Way, by-right, by-allowance, by-credit, unclaimed, by-extra, idle, sender, length-of}
+use Rattle.model.specs.Turn.{charged, sends, hands-on, takes-up, turned}
 use Rattle.model.specs.Departures.{departures}
 use Rattle.model.specs.Cell.{Cell, mark-from, mark-after, settled}
 use Rattle.model.specs.Calls.{Call, arrived, decide, turn-after, turn-of, accepted, step}
@@ -79,15 +80,17 @@ charged-low keep spent n b s k p d h = (
   cond-both (leads s) (s .allowance +ℤ pos (keep * (n * s .price)) -ℤ pos (spent * (n * s .price))) (s .allowance)
       (λ z. natAbs z ≤ quarters * (b + dearest))
       (λ _. let f =
-          abs-moves (s .allowance) (keep * (n * s .price)) (spent * (n * s .price)) (quarters * dearest) (quarters * b)
-          (h .1) (mul-le-mul k d) (mul-le-mul p d) in omega arith)
+      abs-moves (s .allowance) (keep * (n * s .price)) (spent * (n * s .price)) (quarters * dearest) (quarters * b)
+      (h .1) (mul-le-mul k d) (mul-le-mul p d) in omega arith)
       (λ _. omega (arith, h .1)),
 )
 
 takes-low : (n b : ℕ) (s : Session) → Low b s → Low b (takes-up n s)
-takes-low n b s h =
-    (h .0, cond-both (not (leads s) && ltZ (s .lag -ℤ pos n) (pos 0)) (pos 0) (s .allowance)
-    (λ z. natAbs z ≤ quarters * b) (λ _. omega arith) (λ _. h .1))
+takes-low n b s h = (
+  h .0,
+  cond-both (not (leads s) && ltZ (s .lag -ℤ pos n) (pos 0)) (pos 0) (s .allowance)
+      (λ z. natAbs z ≤ quarters * b) (λ _. omega arith) (λ _. h .1),
+)
 
 low-more : (b : ℕ) (s : Session) → Low b s → Low (b + dearest) s
 low-more b s h = omega (arith, h .0, h .1)
@@ -156,7 +159,7 @@ module _ {C : Type 0} (M : Meaning C) (law : Lawful M) where
       let h = turned-low (x .keep) n (dearest * x .turns) (x .table) c (w .keep) d (w .rows) v in
       settled-within x _ (x .turns + 1) _ (w .keep) (omega (arith, w .mark))
       (λ j. let g =
-          departures-low (dearest * x .turns + dearest) (turned (x .keep) (x .table) c n v) h j in omega (arith, g .0, g .1))
+      departures-low (dearest * x .turns + dearest) (turned (x .keep) (x .table) c n v) h j in omega (arith, g .0, g .1))
 
   pub step-within : (x : Cell C) (call : Call) → Ordered x → Within x → Within (step M x call .cell)
   unfolding accepted
@@ -165,10 +168,12 @@ module _ {C : Type 0} (M : Meaning C) (law : Lawful M) where
       (λ _ why. w)
       (λ p r _ _ _ _. calm-within x p (λ _. fresh r (price-of r)) _ w (omega arith))
       (λ p _ _ _ _. calm-within x p (λ _. vacant) _ w (omega arith))
-      (λ p g n _ _ _ _ _. calm-within x p (arrived (x .mark) (record { tag = g; length = n })) _ w
-          (cond-both (at (x .table) p .active) (at (x .table) p .virtual-time) (max (at (x .table) p .virtual-time) (x .mark))
-              (λ v. v ≤ dearest * x .turns)
-              (λ _. w .rows p .0) (λ _. omega (arith, w .rows p .0, w .mark)), w .rows p .1))
+      (λ p g n _ _ _ _ _. calm-within x p (arrived (x .mark) (record { tag = g; length = n })) _ w (
+        cond-both (at (x .table) p .active) (at (x .table) p .virtual-time) (max (at (x .table) p .virtual-time) (x .mark))
+            (λ v. v ≤ dearest * x .turns)
+            (λ _. w .rows p .0) (λ _. omega (arith, w .rows p .0, w .mark)),
+        w .rows p .1,
+      ))
       (λ p b _ _. calm-within x p (with-good b) _ w (w .rows p))
       (λ c e _. turn-within x c s w e)
       call

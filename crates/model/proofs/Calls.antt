@@ -29,7 +29,8 @@ use Rattle.model.proofs.Ledger.{Ordered, Move, owing}
 use Rattle.model.proofs.Senders.{Rightly, decides, Chosen, chosen-is}
 use Rattle.model.proofs.Turn.{way-fits, Part, named}
 use Rattle.model.proofs.Turned.{turn-book, turn-owes, turn-rises, turn-pays, turn-part, turn-price}
-use Rattle.model.proofs.Calm.{Calm, open-calm, close-calm, arrive-calm, report-calm, calm-book, calm-rises, calm-pays, calm-kept}
+use Rattle.model.proofs.Calm.{Calm, open-calm, close-calm, arrive-calm, report-calm, calm-book, calm-rises, calm-pays}
+use Rattle.model.proofs.Calm.{calm-kept}
 use Rattle.model.proofs.Cases.{each-case}
 
 -- ---- bytes by the answer
@@ -93,8 +94,11 @@ module _ {C : Type 0} (M : Meaning C) (law : Lawful M) where
 
   turn-good : (x : Cell C) (c : ℕ) (w : Way) → Ordered x → x .turns < most-turns → Chosen (x .mark) (x .table) c →
       Rightly (x .table) (at (x .table) c) w →
-      Good x (record { cell =
-          turn-after M x c w (length-of (x .table) (sender c w)); answer = Ok (Turned (answer-of (x .table) c w)) })
+      Good x (record {
+        cell =
+            turn-after M x c w (length-of (x .table) (sender c w));
+        answer = Ok (Turned (answer-of (x .table) c w));
+      })
   unfolding turn-after settled
   turn-good x c w s more k r = record {
     ordered = record {
@@ -106,8 +110,8 @@ module _ {C : Type 0} (M : Meaning C) (law : Lawful M) where
     move = λ i a a′.
         let p = turn-part (x .keep) (x .mark) (x .table) c w n (s .book) k r l i a a′ in
         let q =
-                subst (λ (s : ℕ). Part i (x .table) (departures (turned (x .keep) (x .table) c n w)) s (p .0))
-                (sent-named i (x .table) (sender c w)) (p .1) in
+        subst (λ (s : ℕ). Part i (x .table) (departures (turned (x .keep) (x .table) c n w)) s (p .0))
+        (sent-named i (x .table) (sender c w)) (p .1) in
         let pays = turn-pays (x .keep) (x .mark) (x .table) c w n (s .book) k r l in (
           p .0,
           record {
@@ -132,16 +136,16 @@ module _ {C : Type 0} (M : Meaning C) (law : Lawful M) where
       each-case M x (s .book .draft .size) (λ _ o. Good x o)
       (λ _ why. refused-good x why s)
       (λ p r i b t f. calm-good x p (λ _. fresh r (price-of r)) (M .cleared (x .chooser) p) s i
-          (open-calm (x .mark) r (at (x .table) p) (s .book .draft .rows p) b t)
-          (omega (arith, total-change (λ s. s .rate) (x .table) p (λ _. fresh r (price-of r)) i)))
+      (open-calm (x .mark) r (at (x .table) p) (s .book .draft .rows p) b t)
+      (omega (arith, total-change (λ s. s .rate) (x .table) p (λ _. fresh r (price-of r)) i)))
       (λ p i b a v. calm-good x p (λ _. vacant) (x .chooser) s i
-          (close-calm (x .mark) (at (x .table) p) (s .book .draft .rows p) a v)
-          (omega (arith, total-change (λ s. s .rate) (x .table) p (λ _. vacant) i, s .book .draft .rates)))
+      (close-calm (x .mark) (at (x .table) p) (s .book .draft .rows p) a v)
+      (omega (arith, total-change (λ s. s .rate) (x .table) p (λ _. vacant) i, s .book .draft .rates)))
       (λ p g n i b z l m. let f : Frame = record { tag = g; length = n } in calm-good x p (arrived (x .mark) f) (x .chooser) s i
-          (arrive-calm (x .mark) f (at (x .table) p) (s .book .draft .rows p) b (z, l) m)
-          (omega (arith, total-same (λ s. s .rate) (x .table) p (arrived (x .mark) f) refl, s .book .draft .rates)))
+      (arrive-calm (x .mark) f (at (x .table) p) (s .book .draft .rows p) b (z, l) m)
+      (omega (arith, total-same (λ s. s .rate) (x .table) p (arrived (x .mark) f) refl, s .book .draft .rates)))
       (λ p b i o. calm-good x p (with-good b) (x .chooser) s i
-          (report-calm (x .mark) b (at (x .table) p) (s .book .draft .rows p) o (s .book .busy p))
-          (omega (arith, total-same (λ s. s .rate) (x .table) p (with-good b) refl, s .book .draft .rates)))
+      (report-calm (x .mark) b (at (x .table) p) (s .book .draft .rows p) o (s .book .busy p))
+      (omega (arith, total-same (λ s. s .rate) (x .table) p (with-good b) refl, s .book .draft .rates)))
       (λ c e m. turn-good x c (decide M x c) s m (chosen-is (x .mark) (x .table) c (s .book) e) (decides M law x c s))
       call

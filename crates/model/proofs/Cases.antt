@@ -17,7 +17,8 @@ use Rattle.model.specs.Limits.{places, longest, most-waiting, most-turns}
 use Rattle.model.specs.Table.{at, booked-total, chosen}
 use Rattle.model.specs.Meaning.{Meaning}
 use Rattle.model.specs.Cell.{Cell}
-use Rattle.model.specs.Calls.{Call, opening, closing, arrival, report, turn, first-of, refusal, refusals, found, Outcome, turn-of, accepted, outcome, step}
+use Rattle.model.specs.Calls.{Call, opening, closing, arrival, report, turn, first-of, refusal, refusals, found}
+use Rattle.model.specs.Calls.{Outcome, turn-of, accepted, outcome, step}
 use Rattle.model.proofs.Chosen.{chosen-some}
 
 -- no refusal: no condition of the list held
@@ -33,13 +34,13 @@ passed (c ∷ cs) e = by (c .0) refl e (λ g. passed cs g)
 module _ {C : Type 0} (M : Meaning C) (x : Cell C) (size : length (x .table) ≡ places) (P : Call → Outcome M → Type 0)
     (refused : (call : Call) (why : Refusal) → P call (record { cell = x; answer = Err why }))
     (opens : (p r : ℕ) → p < length (x .table) → at (x .table) p .booked ≡ false → in-tariff r ≡ true → booked-total (x .table) + r ≤ link →
-        P (opening p r) (accepted M x (opening p r)))
+    P (opening p r) (accepted M x (opening p r)))
     (closes : (p : ℕ) → p < length (x .table) → at (x .table) p .booked ≡ true → at (x .table) p .active ≡ false →
-        at (x .table) p .virtual-time ≤ x .mark →
-        P (closing p) (accepted M x (closing p)))
+    at (x .table) p .virtual-time ≤ x .mark →
+    P (closing p) (accepted M x (closing p)))
     (arrives : (p g n : ℕ) → p < length (x .table) → at (x .table) p .booked ≡ true → 0 < n → n ≤ longest →
-        length (at (x .table) p .queue) < most-waiting →
-        P (arrival p g n) (accepted M x (arrival p g n)))
+    length (at (x .table) p .queue) < most-waiting →
+    P (arrival p g n) (accepted M x (arrival p g n)))
     (reports : (p : ℕ) (b : Bool) → p < length (x .table) → at (x .table) p .booked ≡ true → P (report p b) (accepted M x (report p b)))
     (turns : (c : ℕ) → chosen (x .table) ≡ Some c → x .turns < most-turns → P turn (turn-of M x c)) where
   inside : (p : ℕ) → leb places p ≡ false → p < length (x .table)

@@ -1,7 +1,8 @@
 -- Departures keep the accounts, and end when nobody is gone to depart.
 use Prim.Native.Nat.{ℕ, zero, suc, _+_, _-_, _*_, _/_, _≤_, _<_}
 use native.Mathlib.Omega.{arith}
-use native.Mathlib.Nat.{mul-le-mul-left, le-trans, le-refl, le-div-iff-mul-le, div-zero, div-mul-le-self, add-zero, zero-add, mul-zero, zero-div, mul-div-cancel, sub-self}
+use native.Mathlib.Nat.{mul-le-mul-left, le-trans, le-refl, le-div-iff-mul-le, div-zero, div-mul-le-self, add-zero}
+use native.Mathlib.Nat.{zero-add, mul-zero, zero-div, mul-div-cancel, sub-self}
 use mathlib.Core.Path.{_≡_, refl, sym, ap, ap₂, _∙_, subst}
 use mathlib.Core.Bool.{Bool, true, false, not, _&&_, _||_}
 use mathlib.Core.List.{[], _∷_}
@@ -12,14 +13,16 @@ use lib.ListN.{length}
 use lib.IntN.{ℤ, pos, negsuc, _+ℤ_}
 use lib.Signed.{_≤ℤ_, ltZ}
 use borrow.Author.Differences.{ints}
-use Rattle.std.proofs.shelf.Tests.{cases-bool, both-ways, true≢false, false≢true, and-parts, not-true, cond-true, cond-false}
+use Rattle.std.proofs.shelf.Tests.{cases-bool, both-ways, true≢false, false≢true, and-parts, not-true, cond-true}
+use Rattle.std.proofs.shelf.Tests.{cond-false}
 use Rattle.tariff.specs.Tariff.{link}
 use Rattle.model.specs.Session.{Session, vacant, waiting, leads, above-zero}
 use Rattle.model.specs.Table.{active-count, Table, at, change, total, totalℤ, first, one-if}
 use Rattle.model.specs.Turn.{owed}
 use Rattle.model.specs.Departures.{departing, gone, active-rate, share, departed, depart, departures}
 use Rattle.model.specs.Sound.{Midway}
-use Rattle.model.proofs.Tables.{length-change, at-other, total-change, total-same, totalℤ-change, totalℤ-none, total-zero, first-found, first-none, first-never, each-change, change-same}
+use Rattle.model.proofs.Tables.{length-change, at-other, total-change, total-same, totalℤ-change, totalℤ-none}
+use Rattle.model.proofs.Tables.{total-zero, first-found, first-none, first-never, each-change, change-same}
 use Rattle.model.proofs.Ledger.{Row, Draft, owing}
 use Rattle.model.proofs.Share.{active-booked}
 
@@ -214,8 +217,8 @@ module _ (t : Table) (k : ℕ) (inside : k < length t) (goes : departing (at t k
     nobody-left : rates-left t k ≡ 0 → lost t k ≡ 0
     nobody-left e =
         let z =
-                totalℤ-none (λ s. s .lag) (less t k)
-                (λ j. quiet-less j (rate-counts (at (less t k) j) (counted-less j) (total-zero active-rate (less t k) e refl j))) in
+        totalℤ-none (λ s. s .lag) (less t k)
+        (λ j. quiet-less j (rate-counts (at (less t k) j) (counted-less j) (total-zero active-rate (less t k) e refl j))) in
         let a = lag-less ∙ d .balance in
         omega (arith, ints)
 
@@ -224,9 +227,12 @@ module _ (t : Table) (k : ℕ) (inside : k < length t) (goes : departing (at t k
     departed-midway = record {
       size = length-share (lost t k) (rates-left t k) 0 (less t k) ∙ length-change t k gone ∙ d .size;
       rates =
-          omega
-          (arith, total-share (λ s. s .rate) (λ n s. refl) (lost t k) (rates-left t k) 0 (less t k),
-          total-same (λ s. s .rate) t k gone refl, d .rates);
+          omega (
+            arith,
+            total-share (λ s. s .rate) (λ n s. refl) (lost t k) (rates-left t k) 0 (less t k),
+            total-same (λ s. s .rate) t k gone refl,
+            d .rates,
+          );
       balance = departed-sum nobody-left ∙ d .balance;
       owing = le-trans departed-owes (d .owing);
       quiet =
@@ -244,8 +250,8 @@ module _ (t : Table) (k : ℕ) (inside : k < length t) (goes : departing (at t k
   departed-draft m d =
       let w = departed-midway (owing t) (midway-of m (owing t) t d (le-refl (owing t))) in
       let rows =
-              each-change (Row m) t k gone (d .rows)
-              (row-gone m (at t k) (d .rows k) (departs (at t k) goes .0) (departs (at t k) goes .1)) in
+      each-change (Row m) t k gone (d .rows)
+      (row-gone m (at t k) (d .rows k) (departs (at t k) goes .0) (departs (at t k) goes .1)) in
       record {
         size = w .size;
         rows =

@@ -24,11 +24,17 @@ use Rattle.model.specs.Limits.{places, idle-length, quarters}
 use Rattle.model.specs.Session.{Frame, able}
 use Rattle.model.specs.Table.{Table, at, chosen}
 use Rattle.model.specs.Meaning.{Meaning, Lawful}
-use Rattle.model.specs.Turn.{Way, by-right, by-allowance, by-credit, unclaimed, by-extra, idle, sender, kind, sent-of, length-of, answer-of}
+use Rattle.model.specs.Turn.{Way, by-right, by-allowance, by-credit, unclaimed, by-extra, idle, sender, kind, sent-of}
+use Rattle.model.specs.Turn.{length-of, answer-of}
 use Rattle.model.specs.Cell.{Cell, settled}
-use Rattle.model.specs.Calls.{Call, opening, closing, arrival, report, turn, refusal, Outcome, decide, turn-after, accepted, outcome, step, new}
-use Rattle.model.specs.History.{sent-from, taken-from, brought-to, frame-of, bytes, sum-to, after, sent, sent-by, brought, Throughout}
-use Rattle.model.specs.Promises.{Gets-its-share, Idles-only-if-none-able, Chooses-the-least-advanced, Says-who-sent, Says-when-idle, Keeps-the-queues, Sends-what-it-says, Counts-every-byte, Always-balanced, Active-exactly-when, Refuses-without-trace, Refuses-in-order, Mark-never-falls, Closing-sheds-nothing, Stays-within, Keeps-its-books, Promises}
+use Rattle.model.specs.Calls.{Call, opening, closing, arrival, report, turn, refusal, Outcome, decide, turn-after}
+use Rattle.model.specs.Calls.{accepted, outcome, step, new}
+use Rattle.model.specs.History.{sent-from, taken-from, brought-to, frame-of, bytes, sum-to, after, sent, sent-by}
+use Rattle.model.specs.History.{brought, Throughout}
+use Rattle.model.specs.Promises.{Gets-its-share, Idles-only-if-none-able, Chooses-the-least-advanced, Says-who-sent}
+use Rattle.model.specs.Promises.{Says-when-idle, Keeps-the-queues, Sends-what-it-says, Counts-every-byte}
+use Rattle.model.specs.Promises.{Always-balanced, Active-exactly-when, Refuses-without-trace, Refuses-in-order}
+use Rattle.model.specs.Promises.{Mark-never-falls, Closing-sheds-nothing, Stays-within, Keeps-its-books, Promises}
 use Rattle.model.proofs.Ledger.{Ordered}
 use Rattle.model.proofs.Share.{share-from}
 use Rattle.model.proofs.Chosen.{chosen-next}
@@ -110,8 +116,8 @@ module _ {C : Type 0} (M : Meaning C) (law : Lawful M) where
   turn-takes x a i s e =
       let q = step-queued M law x turn i s in
       let f =
-              subst
-              (λ (r : Reply). at (x .table) i .queue ++ brought-to i turn r ≡ taken-from i r ++ at (step M x turn .cell .table) i .queue) e q in
+      subst
+      (λ (r : Reply). at (x .table) i .queue ++ brought-to i turn r ≡ taken-from i r ++ at (step M x turn .cell .table) i .queue) e q in
       sym (append-nil (at (x .table) i .queue)) ∙ f
 
   sent-takes : (x : Cell C) (a : Turn) (s : Sent) (i : ℕ) → Ordered x → step M x turn .answer ≡ Ok (Turned a) →
@@ -297,7 +303,9 @@ module _ {C : Type 0} (M : Meaning C) (law : Lawful M) where
       let x = after M (new keep c) ks in
       let s = reached keep c ks in
       let w = reached-within keep c ks k in (
-        omega (arith, w .mark, s .few), s .few, s .book .draft .rates,
+        omega (arith, w .mark, s .few),
+        s .few,
+        s .book .draft .rates,
         λ i. let r =
             w .rows i in
             (omega (arith, r .0, s .few), omega (arith, r .1, s .few), omega (arith, lag-low x i s, s .few), s .book .draft .rows i .room),

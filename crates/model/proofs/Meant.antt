@@ -13,7 +13,7 @@ use Rattle.model.specs.Meaning.{Lawful, if-sound, meaning}
 pub lawful : {C : Type 0} (pick : C → Line → Offer → Option ℕ) (served : C → Line → ℕ → ℕ → ℕ → C)
     (joined : C → Line → ℕ → Offer → C) (cleared : C → ℕ → C) →
     ((c : C) (l : Line) (o : Offer) → Picks-offered (o .entries) (pick c l o)) →
-        Lawful (meaning pick served joined cleared)
+    Lawful (meaning pick served joined cleared)
 lawful pick served joined cleared law c l es h = by (sound es) refl
   where
     by : (b : Bool) (e : sound es ≡ b) → Picks-offered es (if-sound None (pick c l) es b e)

@@ -50,7 +50,7 @@ takes i t q f a h = by (ℕ-discrete q i)
     at-q =
         let b = cond-true (eqb q q) (front (at t q .queue) ∷ []) [] (eq-eqb q q refl) in
         let c : at (change t q f) q .queue ≡ rest (at t q .queue) =
-                ap (λ (s : Session). s .queue) (at-change t q f (able-within t q a)) ∙ h (at t q) in
+        ap (λ (s : Session). s .queue) (at-change t q f (able-within t q a)) ∙ h (at t q) in
         front-and-rest (at t q .queue) waits ∙ sym (ap₂ (λ (x y : List Frame). x ++ y) b c)
 
     by : Dec (q ≡ i) → at t i .queue ≡ out i t (Some q) ++ at (change t q f) i .queue
@@ -187,8 +187,11 @@ module _ {C : Type 0} (M : Meaning C) (law : Lawful M) where
       (λ _ why. append-nil (at (x .table) i .queue))
       (λ p r l b _ _. leaves i (x .table) p (λ _. fresh r (price-of r)) l (sym (ap (λ (s : Session). s .queue) (s .book .draft .rows p .bare b))))
       (λ p l b a _. leaves i (x .table) p (λ _. vacant) l (none-waits (at (x .table) p .queue) (s .book .draft .rows p .quiet a .1)))
-      (λ p g n l _ _ _ _. brings i (x .table) p (record { tag =
-          g; length = n }) (arrived (x .mark) (record { tag = g; length = n })) l (λ s. refl))
+      (λ p g n l _ _ _ _. brings i (x .table) p (record {
+        tag =
+            g;
+        length = n;
+      }) (arrived (x .mark) (record { tag = g; length = n })) l (λ s. refl))
       (λ p b l _. leaves i (x .table) p (with-good b) l refl)
       (λ c e _. append-nil (at (x .table) i .queue) ∙ turn-queued x i c s)
       call
@@ -205,7 +208,7 @@ module _ {C : Type 0} (M : Meaning C) (law : Lawful M) where
       (λ _ _ _ _ _ _ _ _. none)
       (λ _ _ _ _. none)
       (λ c e _. sent-adds places (x .table) (sender c (decide M x c))
-          (λ q f. omega (arith, sender-inside (x .table) c (decide M x c) (decides M law x c s) q f, s .book .draft .size)))
+      (λ q f. omega (arith, sender-inside (x .table) c (decide M x c) (decides M law x c s) q f, s .book .draft .size)))
       call
     where
       none : 0 ≡ sum-to places (λ i. 0)

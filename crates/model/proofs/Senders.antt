@@ -173,6 +173,10 @@ pub chosen-is : (m : ℕ) (t : Table) (c : ℕ) → Book m t → chosen t ≡ So
 chosen-is m t c b e =
     let n = chosen-next t c e in
     let k = least-reached t m (b .lowest c (n .active)) in
-    record { inside =
-        n .inside; active = n .active; level = omega
-        (arith, n .least (k .0) (k .2), k .3, b .draft .rows c .ahead (n .active)) }
+    record {
+      inside =
+          n .inside;
+      active = n .active;
+      level = omega
+          (arith, n .least (k .0) (k .2), k .3, b .draft .rows c .ahead (n .active));
+    }

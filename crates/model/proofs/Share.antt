@@ -193,7 +193,7 @@ module _ {C : Type 0} (M : Meaning C) (Fine : Cell C → Type 0)
     (book : (x : Cell C) → Fine x → Book (x .mark) (x .table))
     (stays : (x : Cell C) (k : Call) → Fine x → Fine (step M x k .cell))
     (moves : (i : ℕ) (x : Cell C) (k : Call) → Fine x → Able M i x → Able M i (step M x k .cell) →
-        (b : ℕ) × Move i x (step M x k .cell) (bytes (taken (step M x k .answer))) (bytes (taken-from i (step M x k .answer))) b) where
+    (b : ℕ) × Move i x (step M x k .cell) (bytes (taken (step M x k .answer))) (bytes (taken-from i (step M x k .answer))) b) where
   pub stays-fine : (x : Cell C) (ks : List Call) → Fine x → Fine (after M x ks)
   unfolding after
   stays-fine x [] f = f
@@ -223,7 +223,7 @@ module _ {C : Type 0} (M : Meaning C) (Fine : Cell C → Type 0)
   share-from i x ks f a =
       let r = runs i x ks f a in
       let e =
-              ends i x (after M x ks) (sent M x ks) (sent-by M i x ks) (r .0) (book x f)
-              (book (after M x ks) (stays-fine x ks f)) (first-of i x ks a) (last-of i x ks a) (r .1) in
+      ends i x (after M x ks) (sent M x ks) (sent-by M i x ks) (r .0) (book x f)
+      (book (after M x ks) (stays-fine x ks f)) (first-of i x ks a) (last-of i x ks a) (r .1) in
       let k = charged-within (at (x .table) i .lag) (r .0) (sent-by M i x ks) (r .1 .kept) in
       omega (arith, mul-le-mul-left (at (x .table) i .price) k)

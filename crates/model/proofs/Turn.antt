@@ -21,9 +21,11 @@ use Rattle.tariff.specs.Tariff.{link}
 use Rattle.model.specs.Limits.{longest, quarters}
 use Rattle.model.specs.Session.{Frame, Session, able, waiting, some-wait, leads, lags, above-zero}
 use Rattle.model.specs.Table.{Table, at, change, total}
-use Rattle.model.specs.Turn.{Way, by-right, by-allowance, by-credit, unclaimed, by-extra, idle, sender, front, rest, length-of, charged, sends, hands-on, takes-up, turned}
+use Rattle.model.specs.Turn.{Way, by-right, by-allowance, by-credit, unclaimed, by-extra, idle, sender, front, rest}
+use Rattle.model.specs.Turn.{length-of, charged, sends, hands-on, takes-up, turned}
 use Rattle.model.specs.Sound.{Fits}
-use Rattle.model.proofs.Tables.{length-change, at-change, at-other, total-change, total-same, totalℤ-change, totalℤ-same, change-same, total-change-le, each-change}
+use Rattle.model.proofs.Tables.{length-change, at-change, at-other, total-change, total-same, totalℤ-change}
+use Rattle.model.proofs.Tables.{totalℤ-same, change-same, total-change-le, each-change}
 use Rattle.model.proofs.Ledger.{Row, Draft, excess, owing}
 use Rattle.model.proofs.Senders.{Rightly, Chosen}
 use Rattle.model.proofs.Share.{active-booked, able-active, able-within}
@@ -73,8 +75,16 @@ charged-charges keep spent n = record {
 hands-charges : (keep n : ℕ) → Charges n (hands-on keep n)
 hands-charges keep n =
     let c = charged-charges keep 0 n in
-    record { booked =
-        c .booked; rate = c .rate; price = c .price; active = c .active; time = c .time; frames = c .frames; room = c .room }
+    record {
+      booked =
+          c .booked;
+      rate = c .rate;
+      price = c .price;
+      active = c .active;
+      time = c .time;
+      frames = c .frames;
+      room = c .room;
+    }
 
 -- ---- the ways a turn can go: one place changes, or two
 
@@ -253,11 +263,17 @@ solo-part i m n keep spent t c k = by (ℕ-discrete c i)
     by : Dec (c ≡ i) → (b : ℕ) × Part i t v (named i n (Some c)) b
     by (yes e) =
         let a : at v i ≡ sends keep spent n (at t i) =
-                subst (λ (j : ℕ). at v j ≡ sends keep spent n (at t j)) e (at-change t c (sends keep spent n) (k .inside)) in
+        subst (λ (j : ℕ). at v j ≡ sends keep spent n (at t j)) e (at-change t c (sends keep spent n) (k .inside)) in
         let s : cond (eqb c i) n 0 ≡ n = cond-true (eqb c i) n 0 (eq-eqb c i e) in
-        let lg : at v i .lag ≡ at t i .lag = ap (λ (s : Session). s .lag) a in
-        (n, record { time =
-            ap (λ (s : Session). s .virtual-time) a ∙ omega arith; lag = omega (arith, ints); given = inl (omega arith) })
+        let lg : at v i .lag ≡ at t i .lag = ap (λ (s : Session). s .lag) a in (
+          n,
+          record {
+            time =
+                ap (λ (s : Session). s .virtual-time) a ∙ omega arith;
+            lag = omega (arith, ints);
+            given = inl (omega arith);
+          },
+        )
     by (no e) = (0, part-none i t v _ (at-other t c i (sends keep spent n) e))
 
 pair-part : (i keep m n : ℕ) (t : Table) (c q : ℕ) → Chosen m t c → Handed t c q → n ≤ longest → able (at t i) ≡ true →
@@ -282,16 +298,28 @@ pair-part i keep m n t c q k p l a = by (ℕ-discrete c i) (ℕ-discrete q i)
         let d : at v i ≡ hands-on keep n (at t i) = at-other u q i (takes-up n) f ∙ given-at e in
         let s : cond (eqb q i) n 0 ≡ 0 = cond-false (eqb q i) n 0 (ne-eqb q i f) in
         let lg : at v i .lag ≡ at t i .lag +ℤ pos n = ap (λ (s : Session). s .lag) d in
-        let led = subst (λ (j : ℕ). able (at t j) ≡ true → leads (at t j) ≡ true) e (p .led) a in
-        (n, record { time =
-            ap (λ (s : Session). s .virtual-time) d ∙ omega arith; lag = omega (arith, ints); given = inr
-            (led, omega arith) })
+        let led = subst (λ (j : ℕ). able (at t j) ≡ true → leads (at t j) ≡ true) e (p .led) a in (
+          n,
+          record {
+            time =
+                ap (λ (s : Session). s .virtual-time) d ∙ omega arith;
+            lag = omega (arith, ints);
+            given = inr
+                (led, omega arith);
+          },
+        )
     by (no e) (yes f) =
         let d : at v i ≡ takes-up n (at t i) = taken-at f ∙ ap (takes-up n) (at-other t c i (hands-on keep n) e) in
         let s : cond (eqb q i) n 0 ≡ n = cond-true (eqb q i) n 0 (eq-eqb q i f) in
-        let lg : at v i .lag ≡ at t i .lag -ℤ pos n = ap (λ (s : Session). s .lag) d in
-        (0, record { time =
-            ap (λ (s : Session). s .virtual-time) d ∙ omega arith; lag = omega (arith, ints); given = inl (omega arith) })
+        let lg : at v i .lag ≡ at t i .lag -ℤ pos n = ap (λ (s : Session). s .lag) d in (
+          0,
+          record {
+            time =
+                ap (λ (s : Session). s .virtual-time) d ∙ omega arith;
+            lag = omega (arith, ints);
+            given = inl (omega arith);
+          },
+        )
     by (no e) (no f) = (0, part-none i t v _ (at-other u q i (takes-up n) f ∙ at-other t c i (hands-on keep n) e))
 
 -- ---- every way

@@ -70,7 +70,7 @@ module _ (keep m : ℕ) (t : Table) (c : ℕ) (w : Way) (n : ℕ) (b : Book m t)
       let p = way-part keep m n t c w k r i l a in
       let v = end-same (λ s. s .virtual-time) (λ n s. refl) (λ s. refl) i in
       let wt : waiting (at (turned keep t c n w) i) ≡ true =
-              sym (end-same waiting (λ n s. refl) (λ s. refl) i) ∙ and-parts (waiting (at end i)) (at end i .good) a′ .0 in
+      sym (end-same waiting (λ n s. refl) (λ s. refl) i) ∙ and-parts (waiting (at end i)) (at end i .good) a′ .0 in
       let q = depart-waits (active-count (turned keep t c n w)) (turned keep t c n w) i wt in
       let lg = p .1 .lag in
       (p .0, record { time = v ∙ p .1 .time; lag = omega (arith, ints); given = p .1 .given })

@@ -9,7 +9,8 @@ use Rattle.std.specs.declared.option.Option.the-variants.{None, Some}
 use Rattle.std.specs.declared.result.Result.{Result}
 use Rattle.std.specs.declared.result.Result.the-variants.{Ok, Err}
 use Rattle.answer.specs.declared.refusal.Refusal.{Refusal}
-use Rattle.answer.specs.declared.refusal.Refusal.the-variants.{PlaceTooHigh, PlaceOpen, PlaceNotOpen, RateNotInTariff, LinkOverbooked}
+use Rattle.answer.specs.declared.refusal.Refusal.the-variants.{PlaceTooHigh, PlaceOpen, PlaceNotOpen, RateNotInTariff}
+use Rattle.answer.specs.declared.refusal.Refusal.the-variants.{LinkOverbooked}
 use Rattle.answer.specs.declared.refusal.Refusal.the-variants.{SessionActive, AheadOfMark, LengthOutOfRange, QueueFull}
 use Rattle.answer.specs.declared.refusal.Refusal.the-variants.{NoneActive, TurnsUsedUp, KeepTooHigh}
 use Rattle.answer.specs.declared.turn.Answer.{Answer}

@@ -48,5 +48,9 @@ module _ {C : Type 0} (M : Meaning C) where
   -- a cell that is left with table u and n accepted turns, its chooser being c before it hears of joins
   unfoldable pub settled : Cell C → Table → ℕ → C → Cell C
   settled x u n c = record {
-    keep = x .keep; mark = mark-after (x .mark) (x .table) u; turns = n; table = u; chooser = all-joins (x .table) u c;
+    keep = x .keep;
+    mark = mark-after (x .mark) (x .table) u;
+    turns = n;
+    table = u;
+    chooser = all-joins (x .table) u c;
   }

@@ -6,7 +6,6 @@ ghost use Rattle.model.specs.Promises.{Promises, Gets-its-share, Idles-only-if
 ghost use Rattle.model.specs.Promises.{Sends-what-it-says, Counts-every-byte, Always-balanced, Active-exactly-when};
 ghost use Rattle.model.specs.Promises.{Refuses-without-trace, Refuses-in-order, Mark-never-falls, Closing-sheds-nothing};
 ghost use Rattle.model.specs.Promises.{Stays-within, Keeps-its-books};
-
 use chooser::Chooser;
 
 // Every promise below, of a cell with any chooser.
