@@ -2,17 +2,16 @@
 ghost use Rattle.std.specs.Vec.{made};
 ghost use Rattle.reclist.specs.Tallies.{Small};
 use record::read;
+use recording::fill;
 use std::io;
 use std::io::BufReader;
 use std::io::BufWriter;
 use std::io::Read;
 use std::io::Write;
 
-mod input;
 mod tally;
 mod words;
 
-use input::fill;
 use tally::Tally;
 use tally::TallyDisplay;
 use words::InWords;
@@ -26,7 +25,7 @@ fn list<R: Read, W: Write>(reader: &mut R, out: &mut W) -> io::Result<Tally>
 {
     let mut bytes = [0u8; 16];
     let mut tally = Tally::new();
-    while tally.records() < tally::LIMIT {
+    while tally.records() < recording::RECORDS {
         let number = tally.records() + 1;
         let n = fill(reader, &mut bytes)?;
         match read(&bytes[0..n], number) {
@@ -45,7 +44,7 @@ fn list<R: Read, W: Write>(reader: &mut R, out: &mut W) -> io::Result<Tally>
 }
 
 fn main(rt: LibcRuntime) -> io::Result<()> {
-    let mut reader = BufReader::new(rt.stdin().take(16_000_000));
+    let mut reader = BufReader::new(rt.stdin().take(recording::BYTES));
     let mut out = BufWriter::new(rt.stdout());
     let tally = list(&mut reader, &mut out)?;
     writeln!(out, "{} records: {tally}", tally.records())?;

@@ -6,9 +6,6 @@ ghost use Rattle.reclist.specs.Tallies.{Small, counted, empty, records as all-
 use record::Event;
 use std::fmt;
 
-// How many records are read at most.
-pub(crate) const LIMIT: u64 = 1_000_000;
-
 // Records by letter, and the bytes of the frames that were offered.
 #[derive(Drop)]
 pub(crate) struct Tally {

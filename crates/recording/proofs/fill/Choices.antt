@@ -1,5 +1,5 @@
 use Prim.Native.Nat.{_≤_}
-use Rattle.reclist.proofs.input.fill.Given as given
+use Rattle.recording.proofs.fill.Given as given
 
 abbrev pub Inv-loop : given.InvT-loop
 Inv-loop g l = l .at ≤ 16
