@@ -6,6 +6,7 @@ use std::io::Read;
 
 // How many records are read at most, and the bytes that they have.
 pub const RECORDS: u64 = 1_000_000;
+
 pub const BYTES: u64 = 16_000_000;
 
 // Reads until the sixteen bytes are full or the input ends, and says how many there are.
