@@ -1,0 +1,2 @@
+pub mod Fifo
+pub mod Waiting
