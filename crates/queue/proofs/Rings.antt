@@ -5,30 +5,28 @@ use mathlib.Core.List.{List, [], _∷_, _++_}
 use Prim.Native.Nat.{ℕ, zero, suc, _+_, _-_, _%_, _<_, _≤_}
 use native.Mathlib.Omega.{arith}
 use native.Mathlib.Numerals.{add-one}
-use lib.Dec.{eqb}
 use lib.ListN.{length, getD, set}
 use lib.Seq.{getD-set-same, getD-set-other}
-use Rattle.std.proofs.shelf.Tests.{ne-eqb}
-use Rattle.std.specs.declared.option.Option.the-variants.{Some, None}
+use Rattle.std.specs.declared.option.Option.the-variants.{Some}
 use Rattle.std.specs.shelf.Maps.{nth}
-use Rattle.queue.specs.Fifo.{is-empty, front, rest}
-use Rattle.queue.specs.Waiting.{around, no-frame}
+use Rattle.queue.specs.Ring.{around, held, no-frame}
 use Rattle.queue.specs.declared.frame.Frame.{Frame}
+use Rattle.queue.specs.declared.ring.Ring.{Ring}
 
-pub length-around : (xs : List Frame) (h n : ℕ) → length (around xs h n) ≡ n
+length-around : (xs : List Frame) (h n : ℕ) → length (around xs h n) ≡ n
 length-around xs h zero = refl
 length-around xs h (suc n) = ap suc (length-around xs ((h + 1) % 32) n)
 
-pub empty-around : (xs : List Frame) (h n : ℕ) → eqb n 0 ≡ is-empty (around xs h n)
-empty-around xs h zero = refl
-empty-around xs h (suc n) = ne-eqb (suc n) 0 (λ e. omega arith)
+pub length-held : (r : Ring) → length (held r) ≡ r .count
+unfolding held
+length-held r = length-around (r .frames) (r .head) (r .count)
 
-pub nth-around : (xs : List Frame) (h n i : ℕ) → h < 32 → i < n → Some (getD xs ((h + i) % 32) no-frame) ≡ nth (around xs h n) i
+pub nth-around : (xs : List Frame) (h n i : ℕ) → h < 32 → i < n → nth (around xs h n) i ≡ Some (getD xs ((h + i) % 32) no-frame)
 nth-around xs h zero i l b = absurd (omega arith)
-nth-around xs h (suc n) zero l b = ap (λ k. Some (getD xs k no-frame)) (omega arith)
+nth-around xs h (suc n) zero l b = ap (λ (k : ℕ). Some (getD xs k no-frame)) (omega arith)
 nth-around xs h (suc n) (suc i) l b =
-    let same : (h + suc i) % 32 ≡ ((h + 1) % 32 + i) % 32 = omega arith in
-    ap (λ k. Some (getD xs k no-frame)) same ∙ nth-around xs ((h + 1) % 32) n i (omega arith) (omega arith)
+    let same : ((h + 1) % 32 + i) % 32 ≡ (h + suc i) % 32 = omega arith in
+    nth-around xs ((h + 1) % 32) n i (omega arith) (omega arith) ∙ ap (λ (k : ℕ). Some (getD xs k no-frame)) same
 
 -- a write elsewhere is not seen
 around-set : (xs : List Frame) (p : ℕ) (f : Frame) (h n : ℕ) → h < 32 → ((k : ℕ) → k < n → (h + k) % 32 ≢ p) → around (set xs p f) h n ≡ around xs h n
@@ -53,6 +51,6 @@ around-push xs h n f e l b =
     let apart : (k : ℕ) → k < n → (h + k) % 32 ≢ (h + n) % 32 = λ k c d. omega arith in
     rw (add-one, around-more (set xs ((h + n) % 32) f) h n l, getD-set-same, around-set xs ((h + n) % 32) f h n l apart)
 
-pub around-pop : (xs : List Frame) (h n : ℕ) → (n ≡ 0 → ⊥) → (Some (getD xs h no-frame) ≡ front (around xs h n)) × (around xs ((h + 1) % 32) (n - 1) ≡ rest (around xs h n))
-around-pop xs h zero ne = absurd (ne refl)
-around-pop xs h (suc n) ne = (refl, ap (around xs ((h + 1) % 32)) (omega arith))
+pub around-take : (xs : List Frame) (h n : ℕ) → 0 < n → around xs h n ≡ getD xs h no-frame ∷ around xs ((h + 1) % 32) (n - 1)
+around-take xs h zero some = absurd (omega arith)
+around-take xs h (suc n) some = ap (λ (k : ℕ). getD xs h no-frame ∷ around xs ((h + 1) % 32) k) (omega arith)

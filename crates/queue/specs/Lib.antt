@@ -1,2 +1,3 @@
 pub mod Fifo
+pub mod Ring
 pub mod Waiting

@@ -9,41 +9,45 @@ use answer::Refusal;
 
 mod frame;
 mod ring;
+mod slots;
 
 pub use frame::Frame;
-pub use ring::Queue;
+use ring::Ring;
+use slots::ROOM;
 
-// How many frames may wait.
-pub const ROOM: usize = 32;
+// At most 32 frames, first in first out, in memory of its own.
+#[derive(Clone, Copy)]
+pub struct Queue {
+    ring: Ring,
+}
 
 impl Queue {
     pub fn new() -> Queue
         ensures { λ r. ⌜ waiting r ≡ [] ⌝ }
     {
-        let blank = Frame { tag: 0, length: 0 };
-        Queue { frames: [blank; 32], head: 0, count: 0 }
+        Queue { ring: Ring::new() }
     }
 
     pub fn len(&self) -> usize
         ensures { λ r. ⌜ r ≡ length (waiting (now (self .entry))) ⌝ }
     {
-        self.count
+        self.ring.count()
     }
 
     pub fn is_empty(&self) -> bool
         ensures { λ r. ⌜ r ≡ is-empty (waiting (now (self .entry))) ⌝ }
     {
-        self.count == 0
+        self.len() == 0
     }
 
     // The i-th frame that waits, from 0: the one that leaves after i others.
     pub fn get(&self, i: usize) -> Option<Frame>
         ensures { λ r. ⌜ r ≡ nth (waiting (now (self .entry))) i ⌝ }
     {
-        if i >= self.count {
+        if i >= self.len() {
             return None;
         }
-        Some(self.frames[(self.head + i) % ROOM])
+        Some(self.ring.at(i))
     }
 
     // Puts a frame behind those that wait.
@@ -51,11 +55,10 @@ impl Queue {
         ensures answer { λ r. ⌜ r ≡ push-answer (waiting (now (self .entry))) ⌝ }
         ensures after { λ _. ⌜ waiting (now (self .exit)) ≡ pushed (waiting (now (self .entry))) frame ⌝ }
     {
-        if self.count >= ROOM {
+        if self.len() >= ROOM {
             return Err(Refusal::QueueFull);
         }
-        self.frames[(self.head + self.count) % ROOM] = frame;
-        self.count += 1;
+        self.ring.put(frame);
         Ok(())
     }
 
@@ -64,12 +67,9 @@ impl Queue {
         ensures answer { λ r. ⌜ r ≡ front (waiting (now (self .entry))) ⌝ }
         ensures after { λ _. ⌜ waiting (now (self .exit)) ≡ rest (waiting (now (self .entry))) ⌝ }
     {
-        if self.count == 0 {
+        if self.is_empty() {
             return None;
         }
-        let frame = self.frames[self.head];
-        self.head = (self.head + 1) % ROOM;
-        self.count -= 1;
-        Some(frame)
+        Some(self.ring.take())
     }
 }
