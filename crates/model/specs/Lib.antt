@@ -1,0 +1,9 @@
+pub mod Limits
+pub mod Session
+pub mod Table
+pub mod Lists
+pub mod Meaning
+pub mod Turn
+pub mod Departures
+pub mod Cell
+pub mod Calls

@@ -1,0 +1,1 @@
+// The cell as a definition, and what it promises.
