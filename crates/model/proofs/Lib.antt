@@ -1,0 +1,16 @@
+pub mod Tables
+pub mod Ledger
+pub mod Share
+pub mod Settle
+pub mod Departures
+pub mod Chosen
+pub mod Turn
+pub mod Turned
+pub mod Calm
+pub mod Cases
+pub mod Calls
+pub mod Bounds
+pub mod Queues
+pub mod Books
+pub mod Laws
+pub mod Histories

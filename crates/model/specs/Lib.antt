@@ -7,3 +7,7 @@ pub mod Turn
 pub mod Departures
 pub mod Cell
 pub mod Calls
+pub mod Laws
+pub mod Sound
+pub mod History
+pub mod Promises

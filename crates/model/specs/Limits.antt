@@ -30,3 +30,7 @@ quarters = 4
 -- what the dearest turn adds to a virtual time: the longest frame, at the price of rate 1
 abbrev pub dearest : ℕ
 dearest = longest * link
+
+-- how far all turns together can bring a virtual time: 2,214,051,840,000,000,000
+abbrev pub furthest : ℕ
+furthest = dearest * most-turns

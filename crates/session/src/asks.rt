@@ -2,7 +2,7 @@
 ghost use mathlib.Core.Path.{_≡_};
 ghost use Rattle.model.specs.Lists.{in-line, entry};
 ghost use Rattle.model.specs.Session.{waiting, able, lags, leads};
-ghost use Rattle.session.specs.Seen.{seen, time-key};
+ghost use Rattle.session.specs.Seen.{seen, stay, time-key};
 use super::row::Row;
 use chooser::Entry;
 use chooser::Line;
@@ -48,8 +48,14 @@ impl Row {
         }
     }
 
-    // What an offer says of it.
-    pub fn entry(&self, offered: bool) -> Entry
+    // What an offer of those who stayed in a list says of it, given whether it stood there before.
+    pub fn stays(&self, line: Line, before: bool) -> Entry
+        ensures { λ r. ⌜ r ≡ stay line before (seen (now (self .entry))) ⌝ }
+    {
+        self.entry(before & self.stands_in(line))
+    }
+
+    fn entry(&self, offered: bool) -> Entry
         ensures { λ r. ⌜ r ≡ entry offered (seen (now (self .entry))) ⌝ }
     {
         if offered {

@@ -1,0 +1,120 @@
+-- What waited, then what a call brought, is what it took, then what waits.
+use Prim.Native.Nat.{ℕ, _<_}
+use native.Mathlib.Omega.{arith}
+use native.Mathlib.Decide.{ℕ-discrete}
+use mathlib.Core.Path.{_≡_, refl, sym, ap, ap₂, _∙_, subst}
+use mathlib.Core.Bool.{Bool, true, false, cond}
+use mathlib.Core.List.{List, [], _∷_, _++_}
+use lib.Dec.{eqb}
+use lib.ListN.{length}
+use Rattle.std.specs.declared.option.Option.{Option}
+use Rattle.std.specs.declared.option.Option.the-variants.{None, Some}
+use Rattle.std.proofs.shelf.Tests.{cond-true, cond-false, eq-eqb, ne-eqb, false≢true, and-parts}
+use Rattle.std.proofs.shelf.Lists.{append-nil}
+use Rattle.tariff.specs.Tariff.{price-of}
+use Rattle.model.specs.Session.{Frame, Session, vacant, fresh, with-good, able, waiting, some-wait}
+use Rattle.model.specs.Table.{Table, at, change, active-count, chosen}
+use Rattle.model.specs.Meaning.{Meaning, Lawful}
+use Rattle.model.specs.Turn.{Way, by-right, by-allowance, by-credit, unclaimed, by-extra, idle, sender, front, rest, length-of, sent-of, charged, sends, hands-on, takes-up, turned}
+use Rattle.model.specs.Departures.{departures}
+use Rattle.model.specs.Cell.{Cell, settled}
+use Rattle.model.specs.Calls.{Call, arrived, Outcome, decide, turn-after, turn-of, accepted, step}
+use Rattle.model.specs.History.{sent-from, taken-from, brought-to}
+use Rattle.model.proofs.Tables.{length-change, at-change, at-other, change-same}
+use Rattle.model.proofs.Ledger.{Ordered}
+use Rattle.model.proofs.Share.{able-within}
+use Rattle.model.proofs.Departures.{depart-same}
+use Rattle.model.proofs.Turn.{Rightly, decides, Chosen, chosen-is}
+use Rattle.model.proofs.Cases.{each-case}
+
+front-and-rest : (q : List Frame) → some-wait q ≡ true → q ≡ front q ∷ rest q
+front-and-rest [] e = absurd (false≢true e)
+front-and-rest (f ∷ q) e = refl
+
+-- the frames that leave place i when o sends
+abbrev out : ℕ → Table → Option ℕ → List Frame
+out i t o = sent-from i (sent-of t o) (length-of t o)
+
+-- one place is changed, and its first frame leaves
+takes : (i : ℕ) (t : Table) (q : ℕ) (f : Session → Session) → able (at t q) ≡ true → ((s : Session) → f s .queue ≡ rest (s .queue)) → at t i .queue ≡ out i t (Some q) ++ at (change t q f) i .queue
+takes i t q f a h = by (ℕ-discrete q i)
+  where
+    waits : waiting (at t q) ≡ true
+    waits = and-parts (waiting (at t q)) (at t q .good) a .0
+
+    at-q : at t q .queue ≡ out q t (Some q) ++ at (change t q f) q .queue
+    at-q =
+        let b = cond-true (eqb q q) (front (at t q .queue) ∷ []) [] (eq-eqb q q refl) in
+        let c : at (change t q f) q .queue ≡ rest (at t q .queue) = ap (λ (s : Session). s .queue) (at-change t q f (able-within t q a)) ∙ h (at t q) in
+        front-and-rest (at t q .queue) waits ∙ sym (ap₂ (λ (x y : List Frame). x ++ y) b c)
+
+    by : Dec (q ≡ i) → at t i .queue ≡ out i t (Some q) ++ at (change t q f) i .queue
+    by (yes e) = subst (λ (j : ℕ). at t j .queue ≡ out j t (Some q) ++ at (change t q f) j .queue) e at-q
+    by (no n) =
+        let b = cond-false (eqb q i) (front (at t q .queue) ∷ []) [] (ne-eqb q i n) in
+        let c = ap (λ (s : Session). s .queue) (at-other t q i f n) in
+        sym (ap₂ (λ (x y : List Frame). x ++ y) b c)
+
+-- a turn that is handed on takes the sender's frame alone
+hands : (i keep n : ℕ) (t : Table) (c q : ℕ) → able (at t q) ≡ true → at t i .queue ≡ out i t (Some q) ++ at (change (change t c (hands-on keep n)) q (takes-up n)) i .queue
+hands i keep n t c q a =
+    let u = change t c (hands-on keep n) in
+    let b = change-same (λ s. s .queue) t c (hands-on keep n) (λ s. refl) in
+    let g = takes i u q (takes-up n) (change-same able t c (hands-on keep n) (λ s. refl) q ∙ a) (λ s. refl) in
+    sym (b i) ∙ g ∙ ap (λ (fs : List Frame). cond (eqb q i) (front fs ∷ []) [] ++ at (change u q (takes-up n)) i .queue) (b q)
+
+way-takes : (i keep n : ℕ) (t : Table) (c : ℕ) (w : Way) → Rightly t (at t c) w → at t i .queue ≡ out i t (sender c w) ++ at (turned keep t c n w) i .queue
+unfolding turned
+way-takes i keep n t c by-right r = takes i t c (sends keep 0 n) r (λ s. refl)
+way-takes i keep n t c by-allowance r = takes i t c (sends keep 4 n) r (λ s. refl)
+way-takes i keep n t c unclaimed r = takes i t c (sends keep 0 n) r (λ s. refl)
+way-takes i keep n t c (by-credit q) r = hands i keep n t c q (r .0)
+way-takes i keep n t c (by-extra q) r = hands i keep n t c q (r .0)
+way-takes i keep n t c idle r = sym (change-same (λ s. s .queue) t c (charged keep 0 n) (λ s. refl) i)
+
+-- a frame is queued at one place
+brings : (i : ℕ) (t : Table) (p : ℕ) (g : Frame) (f : Session → Session) → p < length t → ((s : Session) → f s .queue ≡ s .queue ++ g ∷ []) → at t i .queue ++ cond (eqb p i) (g ∷ []) [] ≡ at (change t p f) i .queue
+brings i t p g f l h = by (ℕ-discrete p i)
+  where
+    at-p : at t p .queue ++ cond (eqb p p) (g ∷ []) [] ≡ at (change t p f) p .queue
+    at-p = ap (λ (fs : List Frame). at t p .queue ++ fs) (cond-true (eqb p p) (g ∷ []) [] (eq-eqb p p refl)) ∙ sym (ap (λ (s : Session). s .queue) (at-change t p f l) ∙ h (at t p))
+
+    by : Dec (p ≡ i) → at t i .queue ++ cond (eqb p i) (g ∷ []) [] ≡ at (change t p f) i .queue
+    by (yes e) = subst (λ (j : ℕ). at t j .queue ++ cond (eqb p j) (g ∷ []) [] ≡ at (change t p f) j .queue) e at-p
+    by (no n) = ap (λ (fs : List Frame). at t i .queue ++ fs) (cond-false (eqb p i) (g ∷ []) [] (ne-eqb p i n)) ∙ append-nil (at t i .queue) ∙ sym (ap (λ (s : Session). s .queue) (at-other t p i f n))
+
+-- a change of one place that leaves its queue
+leaves : (i : ℕ) (t : Table) (p : ℕ) (f : Session → Session) → p < length t → f (at t p) .queue ≡ at t p .queue → at t i .queue ++ [] ≡ at (change t p f) i .queue
+leaves i t p f l h = append-nil (at t i .queue) ∙ by (ℕ-discrete p i)
+  where
+    by : Dec (p ≡ i) → at t i .queue ≡ at (change t p f) i .queue
+    by (yes e) = subst (λ (j : ℕ). at t j .queue ≡ at (change t p f) j .queue) e (sym (ap (λ (s : Session). s .queue) (at-change t p f l) ∙ h))
+    by (no n) = sym (ap (λ (s : Session). s .queue) (at-other t p i f n))
+
+none-waits : (q : List Frame) → some-wait q ≡ false → [] ≡ q
+none-waits [] e = refl
+none-waits (f ∷ q) e = absurd (false≢true (sym e))
+
+module _ {C : Type 0} (M : Meaning C) (law : Lawful M) where
+  abbrev pub Queued : Cell C → ℕ → Call → Outcome M → Type 0
+  Queued x i call o = at (x .table) i .queue ++ brought-to i call (o .answer) ≡ taken-from i (o .answer) ++ at (o .cell .table) i .queue
+
+  turn-queued : (x : Cell C) (i c : ℕ) → Ordered x → at (x .table) i .queue ≡ taken-from i (turn-of M x c .answer) ++ at (turn-of M x c .cell .table) i .queue
+  unfolding turn-after settled departures
+  turn-queued x i c s =
+      let w = decide M x c in
+      let u = turned (x .keep) (x .table) c (length-of (x .table) (sender c w)) w in
+      way-takes i (x .keep) (length-of (x .table) (sender c w)) (x .table) c w (decides M law x c s)
+      ∙ sym (ap (λ (fs : List Frame). out i (x .table) (sender c w) ++ fs) (depart-same (λ s. s .queue) (λ n s. refl) (λ s. refl) (active-count u) u i))
+
+  pub step-queued : (x : Cell C) (call : Call) (i : ℕ) → Ordered x → Queued x i call (step M x call)
+  unfolding accepted settled
+  step-queued x call i s =
+      each-case M x (s .book .draft .size) (Queued x i)
+      (λ _ why. append-nil (at (x .table) i .queue))
+      (λ p r l b _ _. leaves i (x .table) p (λ _. fresh r (price-of r)) l (sym (ap (λ (s : Session). s .queue) (s .book .draft .rows p .bare b))))
+      (λ p l b a _. leaves i (x .table) p (λ _. vacant) l (none-waits (at (x .table) p .queue) (s .book .draft .rows p .quiet a .1)))
+      (λ p g n l _ _ _ _. brings i (x .table) p (record { tag = g; length = n }) (arrived (x .mark) (record { tag = g; length = n })) l (λ s. refl))
+      (λ p b l _. leaves i (x .table) p (with-good b) l refl)
+      (λ c e _. append-nil (at (x .table) i .queue) ∙ turn-queued x i c s)
+      call

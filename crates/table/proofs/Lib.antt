@@ -1,0 +1,4 @@
+pub mod Built
+pub mod Dues
+pub mod Offering
+pub mod Tables
