@@ -21,15 +21,15 @@ use Rattle.answer.specs.declared.turn.Kind.{Kind}
 use Rattle.answer.specs.declared.turn.Kind.the-variants.{Normal, Credit, Kept, Extra, Idle}
 use Rattle.answer.specs.declared.turn.Sent.{Sent}
 use Rattle.answer.specs.declared.turn.Turn.{Turn}
-use Rattle.model.specs.Limits.{longest, idle-length, quarters}
+use Rattle.model.specs.Limits.{places, idle-length, quarters}
 use Rattle.model.specs.Session.{Frame, Session, able}
 use Rattle.model.specs.Table.{Table, at, chosen}
 use Rattle.model.specs.Meaning.{Meaning, Lawful}
 use Rattle.model.specs.Turn.{Way, by-right, by-allowance, by-credit, unclaimed, by-extra, idle, sender, kind, sent-of, length-of, answer-of}
 use Rattle.model.specs.Cell.{Cell, settled}
 use Rattle.model.specs.Calls.{Call, opening, closing, arrival, report, turn, refusal, Outcome, decide, turn-after, turn-of, accepted, outcome, step, new}
-use Rattle.model.specs.History.{sent-from, taken-from, brought-to, frame-of, after, Throughout}
-use Rattle.model.specs.Promises.{Gets-its-share, Idles-only-if-none-able, Chooses-the-least-advanced, Says-who-sent, Says-when-idle, Keeps-the-queues, Always-balanced, Active-exactly-when, Refuses-without-trace, Mark-never-falls, Closing-sheds-nothing, Stays-within, Keeps-its-books, Promises}
+use Rattle.model.specs.History.{sent-from, taken-from, brought-to, frame-of, bytes, sum-to, after, sent, sent-by, brought, Throughout}
+use Rattle.model.specs.Promises.{Gets-its-share, Idles-only-if-none-able, Chooses-the-least-advanced, Says-who-sent, Says-when-idle, Keeps-the-queues, Sends-what-it-says, Counts-every-byte, Always-balanced, Active-exactly-when, Refuses-without-trace, Mark-never-falls, Closing-sheds-nothing, Stays-within, Keeps-its-books, Promises}
 use Rattle.model.proofs.Ledger.{Ordered}
 use Rattle.model.proofs.Share.{share-from, stays-fine}
 use Rattle.model.proofs.Chosen.{chosen-next}
@@ -37,7 +37,7 @@ use Rattle.model.proofs.Turn.{Rightly, decides}
 use Rattle.model.proofs.Cases.{each-case}
 use Rattle.model.proofs.Calls.{step-good}
 use Rattle.model.proofs.Bounds.{Within, step-within}
-use Rattle.model.proofs.Queues.{step-queued}
+use Rattle.model.proofs.Queues.{sum-none, sum-add, step-queued, step-adds, step-counts}
 use Rattle.model.proofs.Books.{row-status, new-ordered, new-within, sound-from, lag-low}
 
 -- ---- answers
@@ -196,7 +196,7 @@ module _ {C : Type 0} (M : Meaning C) (law : Lawful M) where
       let x = after M (new keep c) ks in
       turn-case x _ (reached keep c ks) (λ c e. let n = chosen-next (x .table) c e in (n .active, n .least, n .before))
 
-  pub says-who : Says-who-sent M
+  says-who : Says-who-sent M
   says-who keep c ks a s e f =
       let x = after M (new keep c) ks in
       let o = reached keep c ks in
@@ -205,13 +205,33 @@ module _ {C : Type 0} (M : Meaning C) (law : Lawful M) where
         λ i n. sym (sent-takes x a s i o e f ∙ ap (λ (fs : List Frame). fs ++ at (y .table) i .queue) (cond-false (eqb (s .sender) i) (frame-of s (a .length) ∷ []) [] (ne-eqb (s .sender) i n))),
       )
 
-  pub says-idle : Says-when-idle M
+  says-idle : Says-when-idle M
   says-idle keep c ks =
       let x = after M (new keep c) ks in
       turn-case x (λ a. ((a .kind ≡ Idle) ↔ (a .sent ≡ None)) × (a .sent ≡ None → a .length ≡ idle-length)) (reached keep c ks) (λ c e. way-says (x .table) c (decide M x c))
 
-  pub queues : Keeps-the-queues M
+  queues : Keeps-the-queues M
   queues keep c ks call i = step-queued M law (after M (new keep c) ks) call i (reached keep c ks)
+
+  pub says : Sends-what-it-says M
+  says = (says-who, says-idle, queues)
+
+  counts-at : (i : ℕ) (x : Cell C) (ks : List Call) → Ordered x → bytes (at (x .table) i .queue) + brought M i x ks ≡ sent-by M i x ks + bytes (at (after M x ks .table) i .queue)
+  unfolding after sent-by brought
+  counts-at i x [] s = omega arith
+  counts-at i x (k ∷ ks) s = omega (arith, step-counts M law x k i s, counts-at i (step M x k .cell) ks (step-good M law x k s .ordered))
+
+  adds-up : (x : Cell C) (ks : List Call) → Ordered x → sent M x ks ≡ sum-to places (λ i. sent-by M i x ks)
+  unfolding sent sent-by
+  adds-up x [] s = sym (sum-none places (λ i. 0) (λ _ _. refl))
+  adds-up x (k ∷ ks) s =
+      let a = step-adds M law x k s in
+      let b = adds-up (step M x k .cell) ks (step-good M law x k s .ordered) in
+      let d = sum-add places (λ i. bytes (taken-from i (step M x k .answer))) (λ i. sent-by M i (step M x k .cell) ks) in
+      omega arith
+
+  pub counts : Counts-every-byte M
+  counts keep c ks stretch = (λ i. counts-at i (after M (new keep c) ks) stretch (reached keep c ks), adds-up (after M (new keep c) ks) stretch (reached keep c ks))
 
   pub balanced : Always-balanced M
   balanced keep c ks = let d = reached keep c ks .book .draft in (d .balance, λ i a. d .rows i .quiet a .0)
@@ -266,9 +286,8 @@ module _ {C : Type 0} (M : Meaning C) (law : Lawful M) where
     share = shares;
     idles = idle-turns;
     chooses = chooses;
-    says = says-who;
-    says-idle = says-idle;
-    queues = queues;
+    says = says;
+    counts = counts;
     balance = balanced;
     status = status;
     refuses = refuses;

@@ -14,3 +14,4 @@ pub mod Queues
 pub mod Books
 pub mod Laws
 pub mod Histories
+pub mod Meant

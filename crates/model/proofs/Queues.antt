@@ -1,15 +1,16 @@
 -- What waited, then what a call brought, is what it took, then what waits.
-use Prim.Native.Nat.{ℕ, _<_}
+use Prim.Native.Nat.{ℕ, zero, suc, _+_, _≤_, _<_}
 use native.Mathlib.Omega.{arith}
 use native.Mathlib.Decide.{ℕ-discrete}
 use mathlib.Core.Path.{_≡_, refl, sym, ap, ap₂, _∙_, subst}
 use mathlib.Core.Bool.{Bool, true, false, cond}
 use mathlib.Core.List.{List, [], _∷_, _++_}
+use mathlib.Core.Logic.{_⊎_, inl, inr}
 use lib.Dec.{eqb}
 use lib.ListN.{length}
 use Rattle.std.specs.declared.option.Option.{Option}
 use Rattle.std.specs.declared.option.Option.the-variants.{None, Some}
-use Rattle.std.proofs.shelf.Tests.{cond-true, cond-false, eq-eqb, ne-eqb, false≢true, and-parts}
+use Rattle.std.proofs.shelf.Tests.{cond-true, cond-false, eq-eqb, ne-eqb, false≢true, and-parts, cases-lt}
 use Rattle.std.proofs.shelf.Lists.{append-nil}
 use Rattle.tariff.specs.Tariff.{price-of}
 use Rattle.model.specs.Session.{Frame, Session, vacant, fresh, with-good, able, waiting, some-wait}
@@ -19,7 +20,8 @@ use Rattle.model.specs.Turn.{Way, by-right, by-allowance, by-credit, unclaimed
 use Rattle.model.specs.Departures.{departures}
 use Rattle.model.specs.Cell.{Cell, settled}
 use Rattle.model.specs.Calls.{Call, arrived, Outcome, decide, turn-after, turn-of, accepted, step}
-use Rattle.model.specs.History.{sent-from, taken-from, brought-to}
+use Rattle.model.specs.Limits.{places}
+use Rattle.model.specs.History.{sent-frame, sent-from, taken, taken-from, brought-to, bytes, sum-to}
 use Rattle.model.proofs.Tables.{length-change, at-change, at-other, change-same}
 use Rattle.model.proofs.Ledger.{Ordered}
 use Rattle.model.proofs.Share.{able-within}
@@ -95,6 +97,58 @@ none-waits : (q : List Frame) → some-wait q ≡ false → [] ≡ q
 none-waits [] e = refl
 none-waits (f ∷ q) e = absurd (false≢true (sym e))
 
+-- ---- bytes
+
+bytes-append : (a b : List Frame) → bytes (a ++ b) ≡ bytes a + bytes b
+unfolding bytes
+bytes-append [] b = omega arith
+bytes-append (f ∷ a) b = omega (arith, bytes-append a b)
+
+-- sums over places
+pub sum-none : (n : ℕ) (f : ℕ → ℕ) → ((i : ℕ) → i < n → f i ≡ 0) → sum-to n f ≡ 0
+unfolding sum-to
+sum-none zero f h = refl
+sum-none (suc n) f h = omega (arith, sum-none n f (λ i l. h i (omega arith)), h n (omega arith))
+
+-- only one place has any
+sum-one : (n q : ℕ) (f : ℕ → ℕ) → q < n → ((i : ℕ) → (q ≡ i → ⊥) → f i ≡ 0) → sum-to n f ≡ f q
+unfolding sum-to
+sum-one zero q f l h = absurd (omega arith)
+sum-one (suc n) q f l h = by (ℕ-discrete q n) (λ m. sum-one n q f m h)
+  where
+    by : Dec (q ≡ n) → (q < n → sum-to n f ≡ f q) → sum-to n f + f n ≡ f q
+    by (yes e) ih = omega (arith, sum-none n f (λ i m. h i (λ g. absurd (omega arith))), ap f e)
+    by (no e) ih = omega (arith, ih (below (cases-lt q n)), h n e)
+      where
+        below : (q < n) ⊎ (n ≤ q) → q < n
+        below (inl g) = g
+        below (inr g) = absurd (e (omega arith))
+
+pub sum-add : (n : ℕ) (f g : ℕ → ℕ) → sum-to n (λ i. f i + g i) ≡ sum-to n f + sum-to n g
+unfolding sum-to
+sum-add zero f g = refl
+sum-add (suc n) f g = omega (arith, sum-add n f g)
+
+-- what the sender sends, place by place
+sent-adds : (n : ℕ) (t : Table) (o : Option ℕ) → ((q : ℕ) → o ≡ Some q → q < n) → bytes (sent-frame (sent-of t o) (length-of t o)) ≡ sum-to n (λ i. bytes (out i t o))
+unfolding bytes
+sent-adds n t None h = sym (sum-none n (λ i. 0) (λ _ _. refl))
+sent-adds n t (Some q) h =
+    let one = front (at t q .queue) ∷ [] in
+    sym (sum-one n q (λ i. bytes (out i t (Some q))) (h q refl) (λ i e. ap bytes (cond-false (eqb q i) one [] (ne-eqb q i e))) ∙ ap bytes (cond-true (eqb q q) one [] (eq-eqb q q refl)))
+
+same-place : (a b : ℕ) → Some a ≡ Some b → a ≡ b
+same-place a b e = cc
+
+-- whoever sends is a place of the table
+sender-inside : (t : Table) (c : ℕ) (w : Way) → Rightly t (at t c) w → (q : ℕ) → sender c w ≡ Some q → q < length t
+sender-inside t c by-right r q e = able-within t q (subst (λ (j : ℕ). able (at t j) ≡ true) (same-place c q e) r)
+sender-inside t c by-allowance r q e = able-within t q (subst (λ (j : ℕ). able (at t j) ≡ true) (same-place c q e) r)
+sender-inside t c unclaimed r q e = able-within t q (subst (λ (j : ℕ). able (at t j) ≡ true) (same-place c q e) r)
+sender-inside t c (by-credit j) r q e = able-within t q (subst (λ (j : ℕ). able (at t j) ≡ true) (same-place j q e) (r .0))
+sender-inside t c (by-extra j) r q e = able-within t q (subst (λ (j : ℕ). able (at t j) ≡ true) (same-place j q e) (r .0))
+sender-inside t c idle r q e = let z : _≡_ {A = ℕ} 0 1 = cc in absurd (omega arith)
+
 module _ {C : Type 0} (M : Meaning C) (law : Lawful M) where
   abbrev pub Queued : Cell C → ℕ → Call → Outcome M → Type 0
   Queued x i call o = at (x .table) i .queue ++ brought-to i call (o .answer) ≡ taken-from i (o .answer) ++ at (o .cell .table) i .queue
@@ -118,3 +172,24 @@ module _ {C : Type 0} (M : Meaning C) (law : Lawful M) where
       (λ p b l _. leaves i (x .table) p (with-good b) l refl)
       (λ c e _. append-nil (at (x .table) i .queue) ∙ turn-queued x i c s)
       call
+
+  -- what a call sends, place by place
+  pub step-adds : (x : Cell C) (call : Call) → Ordered x → bytes (taken (step M x call .answer)) ≡ sum-to places (λ i. bytes (taken-from i (step M x call .answer)))
+  unfolding accepted bytes
+  step-adds x call s =
+      each-case M x (s .book .draft .size) (λ _ o. bytes (taken (o .answer)) ≡ sum-to places (λ i. bytes (taken-from i (o .answer))))
+      (λ _ _. none)
+      (λ _ _ _ _ _ _. none)
+      (λ _ _ _ _ _. none)
+      (λ _ _ _ _ _ _ _ _. none)
+      (λ _ _ _ _. none)
+      (λ c e _. sent-adds places (x .table) (sender c (decide M x c)) (λ q f. omega (arith, sender-inside (x .table) c (decide M x c) (decides M law x c s) q f, s .book .draft .size)))
+      call
+    where
+      none : 0 ≡ sum-to places (λ i. 0)
+      none = sym (sum-none places (λ i. 0) (λ _ _. refl))
+
+  -- the bytes of one queue, over a call
+  pub step-counts : (x : Cell C) (call : Call) (i : ℕ) → Ordered x →
+      bytes (at (x .table) i .queue) + bytes (brought-to i call (step M x call .answer)) ≡ bytes (taken-from i (step M x call .answer)) + bytes (at (step M x call .cell .table) i .queue)
+  step-counts x call i s = sym (bytes-append (at (x .table) i .queue) _) ∙ ap bytes (step-queued x call i s) ∙ bytes-append (taken-from i (step M x call .answer)) _

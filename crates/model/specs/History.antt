@@ -1,5 +1,5 @@
 -- Histories: calls one after the other, on a new cell.
-use Prim.Native.Nat.{ℕ, _+_}
+use Prim.Native.Nat.{ℕ, zero, suc, _+_}
 use mathlib.Core.Path.{_≡_}
 use mathlib.Core.Bool.{true, cond}
 use mathlib.Core.List.{List, [], _∷_}
@@ -57,6 +57,11 @@ unfoldable pub bytes : List Frame → ℕ
 bytes [] = 0
 bytes (f ∷ fs) = f .length + bytes fs
 
+-- f added up over the first n places
+unfoldable pub sum-to : ℕ → (ℕ → ℕ) → ℕ
+sum-to zero f = 0
+sum-to (suc n) f = sum-to n f + f n
+
 -- ---- runs
 
 module _ {C : Type 0} (M : Meaning C) where
@@ -74,6 +79,11 @@ module _ {C : Type 0} (M : Meaning C) where
   unfoldable pub sent-by : ℕ → Cell C → List Call → ℕ
   sent-by i x [] = 0
   sent-by i x (k ∷ ks) = bytes (taken-from i (step M x k .answer)) + sent-by i (step M x k .cell) ks
+
+  -- the bytes of all frames that some calls brought to one session's queue
+  unfoldable pub brought : ℕ → Cell C → List Call → ℕ
+  brought i x [] = 0
+  brought i x (k ∷ ks) = bytes (brought-to i k (step M x k .answer)) + brought i (step M x k .cell) ks
 
   -- something holds before some calls and after each of them, refused ones too
   unfoldable pub Always : (Cell C → Type 0) → Cell C → List Call → Type 0

@@ -16,14 +16,14 @@ use Rattle.answer.specs.declared.turn.Sent.{Sent}
 use Rattle.answer.specs.declared.turn.Turn.{Turn}
 use Rattle.chooser.specs.Offers.{lag-bound}
 use Rattle.tariff.specs.Tariff.{link}
-use Rattle.model.specs.Limits.{longest, most-waiting, most-turns, idle-length, quarters, furthest}
+use Rattle.model.specs.Limits.{places, longest, most-waiting, most-turns, idle-length, quarters, furthest}
 use Rattle.model.specs.Session.{able, waiting, leads, lead}
 use Rattle.model.specs.Table.{at, totalℤ, booked-total}
 use Rattle.model.specs.Meaning.{Meaning}
 use Rattle.model.specs.Cell.{Cell}
 use Rattle.model.specs.Calls.{Call, closing, turn, step}
 use Rattle.model.specs.Sound.{Sound}
-use Rattle.model.specs.History.{frame-of, taken-from, brought-to, after, sent, sent-by, Always, Throughout, Able}
+use Rattle.model.specs.History.{frame-of, taken-from, brought-to, bytes, sum-to, after, sent, sent-by, brought, Always, Throughout, Able}
 
 module _ {C : Type 0} (M : Meaning C) where
   -- ---- the share
@@ -54,6 +54,8 @@ module _ {C : Type 0} (M : Meaning C) where
       ((j : ℕ) → at (x .table) j .active ≡ true → v ≤ at (x .table) j .virtual-time) ×
       ((j : ℕ) → at (x .table) j .active ≡ true → j < a .chosen → v < at (x .table) j .virtual-time))
 
+  -- ---- frames
+
   -- An answer that names a sender gives length and tag of the first frame of its queue, and exactly that frame leaves that queue.
   -- Every other queue is unchanged.
   abbrev pub Says-who-sent : Type 0
@@ -76,6 +78,17 @@ module _ {C : Type 0} (M : Meaning C) where
       Throughout M (λ x. (call : Call) (i : ℕ) →
       let o = step M x call in
       at (x .table) i .queue ++ brought-to i call (o .answer) ≡ taken-from i (o .answer) ++ at (o .cell .table) i .queue)
+
+  abbrev pub Sends-what-it-says : Type 0
+  Sends-what-it-says = Says-who-sent × Says-when-idle × Keeps-the-queues
+
+  -- The bytes that the share counts are those of the queues: over any stretch, what waited at a place and what arrived there is
+  -- what it sent and what waits. And what all queues send is what the queues of the 64 places send, added up.
+  abbrev pub Counts-every-byte : Type 0
+  Counts-every-byte =
+      Throughout M (λ x. (stretch : List Call) →
+      ((i : ℕ) → bytes (at (x .table) i .queue) + brought M i x stretch ≡ sent-by M i x stretch + bytes (at (after M x stretch .table) i .queue)) ×
+      (sent M x stretch ≡ sum-to places (λ i. sent-by M i x stretch)))
 
   -- ---- accounts
 
@@ -125,9 +138,8 @@ module _ {C : Type 0} (M : Meaning C) where
     pub share : Gets-its-share
     pub idles : Idles-only-if-none-able
     pub chooses : Chooses-the-least-advanced
-    pub says : Says-who-sent
-    pub says-idle : Says-when-idle
-    pub queues : Keeps-the-queues
+    pub says : Sends-what-it-says
+    pub counts : Counts-every-byte
     pub balance : Always-balanced
     pub status : Active-exactly-when
     pub refuses : Refuses-without-trace
