@@ -4,9 +4,9 @@ use mathlib.Core.Path.{_≡_}
 use mathlib.Core.Bool.{Bool, true, false, cond, _&&_}
 use mathlib.Core.List.{List, [], _∷_}
 use Prim.Native.Nat.{ℕ, _*_}
-use lib.Dec.{leb, eqb}
+use lib.Dec.{leb, ltb, eqb}
 use lib.IntN.{ℤ, pos, natAbs}
-use lib.ListN.{length, getD}
+use lib.ListN.{length, getD, set, replicate}
 use Rattle.std.specs.declared.option.Option.{Option}
 use Rattle.std.specs.declared.option.Option.the-variants.{Some, None}
 use Rattle.tariff.specs.Tariff.{link}
@@ -38,6 +38,19 @@ all-sound (e ∷ es) = sound-entry e && all-sound es
 
 abbrev pub sound : List Entry → Bool
 sound es = eqb (length es) 64 && all-sound es
+
+-- the offer of nobody
+abbrev pub nobody : List Entry
+nobody = replicate 64 idle
+
+-- the entry of one of the 64 places
+abbrev pub entry-at : List Entry → ℕ → Option Entry
+entry-at es place = cond (ltb place 64) (Some (getD es place idle)) None
+
+-- a place is offered; a place above 63 and a lag past the bound change nothing
+abbrev pub with-offered : List Entry → ℕ → ℤ → ℕ → ℕ → List Entry
+with-offered es place lag rate price =
+    cond (ltb place 64 && leb (natAbs lag) lag-bound) (set es place (offered lag rate price)) es
 
 abbrev pub offered-at : List Entry → ℕ → Bool
 offered-at es place = getD es place idle .offered

@@ -2,12 +2,13 @@
 use mathlib.Core.Path.{_≡_, sym, ap, subst, _∙_}
 use mathlib.Core.Logic.{⊎-elim}
 use mathlib.Core.Bool.{Bool, true, false, cond}
+use mathlib.Core.List.{List}
 use Prim.Native.Nat.{ℕ, _≤_, _<_}
 use native.Mathlib.Omega.{arith}
 use lib.ListN.{length, getD}
 use Rattle.std.specs.declared.option.Option.{Option}
 use Rattle.std.specs.declared.option.Option.the-variants.{Some, None}
-use Rattle.std.proofs.shelf.Counted.{getD-map-counting, length-map-counting}
+use Rattle.std.proofs.shelf.Counted.{getD-map-counting, length-map-counting, fill-by-all}
 use Rattle.std.proofs.shelf.Lists.{getD-past}
 use Rattle.std.proofs.shelf.Tests.{cases-bool, cases-lt, cond-true, cond-false}
 use Rattle.keys.specs.Order.{Order}
@@ -23,9 +24,11 @@ same-some x y p = cc
 
 module _ {K : Type 0} (before : K → K → Bool) (n : ℕ) (candidate : ℕ → Bool) (key : ℕ → K) where
   row-at : (i : ℕ) → i < n → getD (by-place n candidate key) i None ≡ key-at candidate key i
+  unfolding by-place
   row-at i h = getD-map-counting (key-at candidate key) 0 n i i None h (omega arith)
 
   row-past : (i : ℕ) → n ≤ i → getD (by-place n candidate key) i None ≡ None
+  unfolding by-place
   row-past i h = getD-past (by-place n candidate key) i None (omega (arith, length-map-counting (key-at candidate key) 0 n))
 
   row-key : (i : ℕ) → i < n → candidate i ≡ true → getD (by-place n candidate key) i None ≡ Some (key i)
@@ -33,6 +36,11 @@ module _ {K : Type 0} (before : K → K → Bool) (n : ℕ) (candidate : ℕ →
 
   row-none : (i : ℕ) → i < n → candidate i ≡ false → getD (by-place n candidate key) i None ≡ None
   row-none i h f = row-at i h ∙ cond-false (candidate i) (Some (key i)) None f
+
+  -- a row that has the key of each place is the row of them
+  pub row-is : (row : List (Option K)) → length row ≡ n → ((i : ℕ) → i < n → getD row i None ≡ key-at candidate key i) → row ≡ by-place n candidate key
+  unfolding by-place
+  row-is row sized h = fill-by-all (key-at candidate key) row n None sized h
 
   -- a key in the row is that of a candidate
   row-some : (i : ℕ) (k : K) → getD (by-place n candidate key) i None ≡ Some k → (i < n) × (candidate i ≡ true) × (key i ≡ k)

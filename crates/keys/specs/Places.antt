@@ -12,7 +12,7 @@ abbrev pub key-at : {K : Type 0} → (ℕ → Bool) → (ℕ → K) → ℕ → 
 key-at candidate key place = cond (candidate place) (Some (key place)) None
 
 -- the row of keys, from place 0 on
-abbrev pub by-place : {K : Type 0} → ℕ → (ℕ → Bool) → (ℕ → K) → List (Option K)
+unfoldable pub by-place : {K : Type 0} → ℕ → (ℕ → Bool) → (ℕ → K) → List (Option K)
 by-place n candidate key = map (key-at candidate key) (counting 0 n)
 
 -- the candidate below n whose key comes first, the lower place on a tie

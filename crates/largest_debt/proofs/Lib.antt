@@ -1,0 +1,3 @@
+pub mod Debts
+pub mod Ratios
+pub mod Laws
