@@ -1,2 +1,3 @@
 pub mod Found
 pub mod View
+pub mod Plans
