@@ -15,3 +15,4 @@ pub mod Books
 pub mod Laws
 pub mod Histories
 pub mod Meant
+pub mod Order

@@ -1,177 +1,92 @@
--- Who is due: the one search for the least key answers what the definition asks for, the first place whose virtual time is the smallest.
+-- Who is due: what the one search for the least key finds is the session that the definition asks for.
 use mathlib.Core.Path.{_≡_, refl, sym, ap, subst, _∙_}
-use mathlib.Core.Logic.{⊎-elim}
-use mathlib.Core.Bool.{Bool, true, false, not, cond, _&&_}
+use mathlib.Core.Logic.{_⊎_, inl, inr}
+use mathlib.Core.Bool.{Bool, true, false, cond}
 use mathlib.Core.List.{List, [], _∷_, map}
-use Prim.Native.Nat.{ℕ, zero, suc, _+_, _<_, _≤_, min, max}
+use Prim.Native.Nat.{ℕ, zero, suc, _<_, _≤_}
 use native.Mathlib.Omega.{arith}
-use lib.Dec.{leb, ltb, eqb}
-use lib.ListN.{length, getD, drop}
-use Rattle.std.proofs.shelf.Tests.{and-parts, and-from, eq-eqb, eqb-true, cases-lt, both-ways, cond-true}
-use Rattle.std.proofs.shelf.Ways.{tells}
-use Rattle.std.specs.Options.{isSome, mapped}
+use lib.ListN.{length, getD}
+use Rattle.std.proofs.shelf.Tests.{both-ways, cases-lt, cond-true, ltb-true, ltb-false}
+use Rattle.std.specs.Options.{mapped}
 use Rattle.std.specs.Slices.{found}
 use Rattle.std.specs.declared.option.Option.{Option}
 use Rattle.std.specs.declared.option.Option.the-variants.{Some, None}
 use Rattle.keys.specs.Kinds.{time, time-before}
-use Rattle.keys.specs.Least.{unbeaten, is-least, least-of, first as first-key}
+use Rattle.keys.specs.Least.{Least, Least-at}
 use Rattle.keys.specs.declared.time.VirtualTime.{VirtualTime}
-use Rattle.model.specs.Session.{Session, vacant}
-use Rattle.model.specs.Table.{Table, at, first, next, sooner, least, due, chosen, chosen-at}
+use Rattle.model.proofs.Chosen.{Next, chosen-next, chosen-some, next-chosen}
+use Rattle.model.proofs.Settle.{least-some}
+use Rattle.model.proofs.Share.{least-reached}
+use Rattle.model.proofs.Tables.{at-past}
+use Rattle.model.specs.Session.{Session}
+use Rattle.model.specs.Table.{Table, at, is-none, least, chosen, chosen-at}
 use Rattle.session.specs.Seen.{time-key}
 
-abbrev no-later : ℕ → Option ℕ → Bool
-no-later x None = true
-no-later x (Some v) = leb x v
+-- ---- the keys of a table
 
--- ---- a key that none beats is no later than the smallest virtual time
-
-unbeaten-more : (b : Bool) (v x : ℕ) (r : Option ℕ) (row : List (Option VirtualTime)) → unbeaten time-before row (time x) ≡ no-later x r → unbeaten time-before (cond b (Some (time v)) None ∷ row) (time x) ≡ no-later x (sooner b v r)
-unbeaten-more false v x r row e = e
-unbeaten-more true v x None row e = grind (arith, tells)
-unbeaten-more true v x (Some w) row e = grind (arith, tells)
-
-unbeaten-is : (t : Table) (x : ℕ) → unbeaten time-before (map time-key t) (time x) ≡ no-later x (least t)
-unfolding least
-unbeaten-is [] x = refl
-unbeaten-is (s ∷ t) x = unbeaten-more (s .active) (s .virtual-time) x (least t) (map time-key t) (unbeaten-is t x)
-
--- ---- the smallest virtual time is no later than any of an active session, and one of them has it
-
-abbrev At-most : Option ℕ → ℕ → Type 0
-At-most None x = ⊥
-At-most (Some v) x = v ≤ x
-
-sooner-here : (b : Bool) (v : ℕ) (r : Option ℕ) → b ≡ true → At-most (sooner b v r) v
-sooner-here false v r e = absurd (both-ways false refl e)
-sooner-here true v None e = omega arith
-sooner-here true v (Some w) e = omega arith
-
-sooner-there : (b : Bool) (v x : ℕ) (r : Option ℕ) → At-most r x → At-most (sooner b v r) x
-sooner-there false v x r h = h
-sooner-there true v x None h = absurd h
-sooner-there true v x (Some w) h = omega arith
-
-least-at-most : (t : Table) (i : ℕ) → at t i .active ≡ true → At-most (least t) (at t i .virtual-time)
-unfolding at least
-least-at-most [] i e = absurd (both-ways false refl e)
-least-at-most (s ∷ t) zero e = sooner-here (s .active) (s .virtual-time) (least t) e
-least-at-most (s ∷ t) (suc i) e = sooner-there (s .active) (s .virtual-time) (at t i .virtual-time) (least t) (least-at-most t i e)
-
-is-due : (v : ℕ) (s : Session) → s .active ≡ true → s .virtual-time ≡ v → due v s ≡ true
-is-due v s a e = and-from (s .active) (eqb (s .virtual-time) v) a (eq-eqb (s .virtual-time) v e)
-
-first-here : (v : ℕ) (s : Session) (t : Table) → due v s ≡ true → isSome (first (due v) (s ∷ t)) ≡ true
-unfolding first
-first-here v s t e = ap isSome (cond-true (due v s) (Some 0) (next (first (due v) t)) e)
-
-some-either : (b : Bool) (o : Option ℕ) → isSome o ≡ true → isSome (cond b (Some 0) (next o)) ≡ true
-some-either true o e = refl
-some-either false None e = e
-some-either false (Some k) e = refl
-
-first-there : (v : ℕ) (s : Session) (t : Table) → isSome (first (due v) t) ≡ true → isSome (first (due v) (s ∷ t)) ≡ true
-unfolding first
-first-there v s t e = some-either (due v s) (first (due v) t) e
-
-reached-by : (v : ℕ) (s : Session) (t : Table) (b : Bool) (r : Option ℕ) → s .active ≡ b → (r ≡ Some v → isSome (first (due v) t) ≡ true) → sooner b (s .virtual-time) r ≡ Some v → isSome (first (due v) (s ∷ t)) ≡ true
-reached-by v s t false r a later e = first-there v s t (later e)
-reached-by v s t true None a later e = let x : s .virtual-time ≡ v = cc in first-here v s t (is-due v s a x)
-reached-by v s t true (Some w) a later e =
-    let m : min (s .virtual-time) w ≡ v = cc in
-    ⊎-elim
-    (λ (lt : s .virtual-time < w). first-here v s t (is-due v s a (omega arith)))
-    (λ (ge : w ≤ s .virtual-time). first-there v s t (later (ap Some (omega arith))))
-    (cases-lt (s .virtual-time) w)
-
-reached : (t : Table) (v : ℕ) → least t ≡ Some v → isSome (first (due v) t) ≡ true
-unfolding least
-reached [] v e = let z : _≡_ {A = ℕ} 0 1 = cc in absurd (omega arith)
-reached (s ∷ t) v e = reached-by v s t (s .active) (least t) refl (reached t v) e
-
--- ---- the first that passes a test passes it, and stands in the table
-
-abbrev Passes : (Session → Bool) → Table → Option ℕ → Type 0
-Passes p t None = Unit {0}
-Passes p t (Some i) = (i < length t) × (p (at t i) ≡ true)
-
-passes-more : (p : Session → Bool) (s : Session) (t : Table) (b : Bool) (o : Option ℕ) → p s ≡ b → Passes p t o → Passes p (s ∷ t) (cond b (Some 0) (next o))
+key-read : (t : Table) (j : ℕ) → getD (map time-key t) j None ≡ time-key (at t j)
 unfolding at
-passes-more p s t true o e h = (omega arith, e)
-passes-more p s t false None e h = tt
-passes-more p s t false (Some i) e h = (omega (arith, h .0), h .1)
+key-read [] j = refl
+key-read (s ∷ t) zero = refl
+key-read (s ∷ t) (suc j) = key-read t j
 
-first-passes : (p : Session → Bool) (t : Table) → Passes p t (first p t)
-unfolding first
-first-passes p [] = tt
-first-passes p (s ∷ t) = passes-more p s t (p s) (first p t) refl (first-passes p t)
+key-active : (t : Table) (j : ℕ) → at t j .active ≡ true → getD (map time-key t) j None ≡ Some (time (at t j .virtual-time))
+key-active t j a = key-read t j ∙ cond-true (at t j .active) (Some (time (at t j .virtual-time))) None a
 
--- ---- the search
+key-some : (b : Bool) (v : ℕ) (key : VirtualTime) → cond b (Some (time v)) None ≡ Some key → (b ≡ true) × (key .0 ≡ v)
+key-some true v key e = (refl, let s : key ≡ time v = cc in ap (λ (k : VirtualTime). k .0) s)
+key-some false v key e = let z : _≡_ {A = ℕ} 0 1 = cc in absurd (omega arith)
 
-next-is : (o : Option ℕ) → mapped suc o ≡ next o
-next-is None = refl
-next-is (Some k) = refl
+active-inside : (t : Table) (j : ℕ) → at t j .active ≡ true → j < length t
+active-inside t j a = by (cases-lt j (length t))
+  where
+    by : (j < length t) ⊎ (length t ≤ j) → j < length t
+    by (inl h) = h
+    by (inr h) = absurd (both-ways (at t j .active) (ap (λ (s : Session). s .active) (at-past t j h)) a)
 
-first-same : (q : Option VirtualTime → Bool) (p : Session → Bool) (t : Table) → ((i : ℕ) → i < length t → q (time-key (at t i)) ≡ p (at t i)) → first-key q (map time-key t) ≡ first p t
-unfolding at first
-first-same q p [] same = refl
-first-same q p (s ∷ t) same =
-    let here = same 0 (omega arith) in
-    let there = next-is (first-key q (map time-key t)) ∙ ap next (first-same q p t (λ i l. same (suc i) (omega arith))) in
-    ap (λ b. cond b (Some 0) (mapped suc (first-key q (map time-key t)))) here ∙ ap (cond (p s) (Some 0)) there
+-- ---- what the search finds
 
-first-never : (t : Table) → first (λ s. false) t ≡ None
-unfolding first
-first-never [] = refl
-first-never (s ∷ t) = ap next (first-never t)
+least-next : (t : Table) (i : ℕ) (key : VirtualTime) → Least-at time-before (map time-key t) i key → Next t i
+least-next t i key h = record {
+  inside = active-inside t i (here .0);
+  active = here .0;
+  least = λ j a. omega (arith, here .1, ltb-false (at t j .virtual-time) (key .0) (h .none-before j (time (at t j .virtual-time)) (key-active t j a)));
+  before = λ j a l. omega (arith, here .1, ltb-true (key .0) (at t j .virtual-time) (h .lowest j (time (at t j .virtual-time)) l (key-active t j a)));
+}
+  where
+    here : (at t i .active ≡ true) × (key .0 ≡ at t i .virtual-time)
+    here = key-some (at t i .active) (at t i .virtual-time) key (sym (key-read t i) ∙ h .candidate)
 
--- the test of the search, on a session that is active or not
-least-due : (t : Table) (v : ℕ) (s : Session) (b : Bool) → least t ≡ Some v → (b ≡ true → v ≤ s .virtual-time) → is-least time-before (map time-key t) (cond b (Some (time (s .virtual-time))) None) ≡ (b && eqb (s .virtual-time) v)
-least-due t v s false e l = refl
-least-due t v s true e l =
-    let h = l refl in
-    unbeaten-is t (s .virtual-time) ∙ ap (no-later (s .virtual-time)) e ∙ grind (arith, tells)
+none-chosen : (t : Table) (o : Option ℕ) → chosen t ≡ o → ((j : ℕ) → getD (map time-key t) j None ≡ None) → None ≡ o
+none-chosen t None e h = refl
+none-chosen t (Some c) e h =
+    let some = key-active t c (chosen-next t c e .active) in
+    let none = h c in
+    let z : _≡_ {A = ℕ} 0 1 = cc in absurd (omega arith)
 
-never-due : (t : Table) (s : Session) (b : Bool) → s .active ≡ b → (s .active ≡ true → ⊥) → is-least time-before (map time-key t) (cond b (Some (time (s .virtual-time))) None) ≡ false
-never-due t s false a n = refl
-never-due t s true a n = absurd (n a)
+pub search-is : (t : Table) (r : Option ℕ) → Least time-before (map time-key t) r → r ≡ chosen t
+search-is t None h = none-chosen t (chosen t) refl h
+search-is t (Some i) h = sym (next-chosen t i (least-next t i (h .0) (h .1)))
 
-chosen-by : (t : Table) (r : Option ℕ) → least t ≡ r → least-of time-before (map time-key t) ≡ chosen-at t r
-chosen-by t None e =
-    first-same (is-least time-before (map time-key t)) (λ s. false) t
-      (λ i l. never-due t (at t i) (at t i .active) refl (λ a. subst (λ r. At-most r (at t i .virtual-time)) e (least-at-most t i a)))
-    ∙ first-never t
-chosen-by t (Some v) e =
-    first-same (is-least time-before (map time-key t)) (due v) t
-      (λ i l. least-due t v (at t i) (at t i .active) e (λ a. subst (λ r. At-most r (at t i .virtual-time)) e (least-at-most t i a)))
-
--- the search over the keys of a table finds who is due
-pub search-is : (t : Table) → least-of time-before (map time-key t) ≡ chosen t
-unfolding chosen
-search-is t = chosen-by t (least t) refl
+pub chosen-inside : (t : Table) (o : Option ℕ) → o ≡ chosen t → found o (λ i. i < length t)
+chosen-inside t None e = tt
+chosen-inside t (Some c) e = chosen-next t c (sym e) .inside
 
 -- ---- and who is due has the smallest virtual time
 
-inside-by : (t : Table) (o : Option ℕ) (p : Session → Bool) → Passes p t o → found o (λ i. i < length t)
-inside-by t None p h = tt
-inside-by t (Some i) p h = h .0
-
-chosen-inside-by : (t : Table) (r : Option ℕ) → found (chosen-at t r) (λ i. i < length t)
-chosen-inside-by t None = tt
-chosen-inside-by t (Some v) = inside-by t (first (due v) t) (due v) (first-passes (due v) t)
-
-pub chosen-inside : (t : Table) → found (chosen t) (λ i. i < length t)
-unfolding chosen
-chosen-inside t = chosen-inside-by t (least t)
-
-time-by : (t : Table) (v : ℕ) (o : Option ℕ) → Passes (due v) t o → isSome o ≡ true → Some v ≡ mapped (λ i. at t i .virtual-time) o
-time-by t v None h e = absurd (both-ways false refl e)
-time-by t v (Some i) h e = ap Some (sym (eqb-true (at t i .virtual-time) v (and-parts (at t i .active) (eqb (at t i .virtual-time) v) (h .1) .1)))
-
-least-by : (t : Table) (r : Option ℕ) → least t ≡ r → r ≡ mapped (λ i. at t i .virtual-time) (chosen-at t r)
-least-by t None e = refl
-least-by t (Some v) e = time-by t v (first (due v) t) (first-passes (due v) t) (reached t v e)
-
 pub least-is : (t : Table) → least t ≡ mapped (λ i. at t i .virtual-time) (chosen t)
 unfolding chosen
-least-is t = least-by t (least t) refl
+least-is t = by (least t) refl
+  where
+    same : (a b : ℕ) → Some a ≡ Some b → a ≡ b
+    same a b e = cc
+
+    by : (o : Option ℕ) → least t ≡ o → least t ≡ mapped (λ i. at t i .virtual-time) (chosen t)
+    by None e = e ∙ ap (λ (o : Option ℕ). mapped (λ i. at t i .virtual-time) (chosen-at t o)) (sym e)
+    by (Some v) e =
+        let c = chosen-some t (ap is-none e) in
+        let low = chosen-next t (c .0) (c .1) .least in
+        let reached = least-reached t v e in
+        let over = least-some t (c .0) (chosen-next t (c .0) (c .1) .active) in
+        let is : v ≡ at t (c .0) .virtual-time = omega (arith, same v (over .0) (sym e ∙ over .1), over .2, low (reached .0) (reached .2), reached .3) in
+        e ∙ ap Some is ∙ ap (mapped (λ i. at t i .virtual-time)) (sym (c .1))

@@ -9,6 +9,7 @@ use Rattle.std.specs.Options.{mapped}
 use Rattle.std.specs.Slices.{found}
 use Rattle.std.specs.declared.option.Option.{Option}
 use Rattle.std.specs.declared.option.Option.the-variants.{Some, None}
+use Rattle.model.proofs.Tables.{at-is, change-is}
 use Rattle.model.specs.Session.{Session, vacant}
 use Rattle.model.specs.Table.{Table, at, change}
 use Rattle.session.specs.Seen.{seen}
@@ -19,34 +20,19 @@ pub length-table : (rows : List Row) → length (table-of rows) ≡ length rows
 unfolding table-of
 length-table rows = length-map rows seen
 
-pub at-getD : (t : Table) (i : ℕ) (d : Session) → i < length t → at t i ≡ getD t i d
-unfolding at
-at-getD [] i d l = absurd (omega arith)
-at-getD (s ∷ t) zero d l = refl
-at-getD (s ∷ t) (suc i) d l = at-getD t i d (omega arith)
-
 pub getD-table : (rows : List Row) (i : ℕ) (d : Row) (e : Session) → i < length rows → getD (table-of rows) i e ≡ seen (getD rows i d)
 unfolding table-of
 getD-table rows i d e l = getD-map seen rows i d e l
 
 -- the session at a place is the row there
 pub at-table : (rows : List Row) (i : ℕ) (d : Row) → i < length rows → at (table-of rows) i ≡ seen (getD rows i d)
-at-table rows i d l =
-    let m : i < length (table-of rows) = omega (arith, length-table rows) in
-    at-getD (table-of rows) i vacant m ∙ getD-table rows i d vacant l
+at-table rows i d l = at-is (table-of rows) i ∙ getD-table rows i d vacant l
 
 -- a row that is written as f changes its session
-change-set : (t : Table) (i : ℕ) (f : Session → Session) → i < length t → change t i f ≡ set t i (f (at t i))
-unfolding at change
-change-set [] i f l = absurd (omega arith)
-change-set (s ∷ t) zero f l = refl
-change-set (s ∷ t) (suc i) f l = ap (λ u. s ∷ u) (change-set t i f (omega arith))
-
 pub written : (rows : List Row) (i : ℕ) (d r : Row) (f : Session → Session) → i < length rows → seen r ≡ f (seen (getD rows i d)) → table-of (set rows i r) ≡ change (table-of rows) i f
 unfolding table-of
 written rows i d r f l made =
-    let m : i < length (table-of rows) = omega (arith, length-table rows) in
-    map-set seen rows i r ∙ ap (set (map seen rows) i) (made ∙ ap f (sym (at-table rows i d l))) ∙ sym (change-set (table-of rows) i f m)
+    map-set seen rows i r ∙ ap (set (map seen rows) i) (made ∙ ap f (sym (getD-table rows i d vacant l))) ∙ sym (change-is (table-of rows) i f)
 
 -- a function of what is left of a table, one row on and at the end
 pub left-more : {Y : Type 0} (F : Table → Y) (rows : List Row) (i : ℕ) (d : Row) → i < length rows → F (drop i (table-of rows)) ≡ F (seen (getD rows i d) ∷ drop (i + 1) (table-of rows))

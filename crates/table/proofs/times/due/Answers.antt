@@ -7,8 +7,8 @@ use Rattle.std.specs.Options.{mapped}
 use Rattle.std.specs.Slices.{found}
 use Rattle.std.specs.declared.option.Option.the-variants.{None}
 use Rattle.keys.specs.Kinds.{time-before}
-use Rattle.keys.specs.Least.{least-of}
-use Rattle.model.specs.Table.{at, chosen}
+use Rattle.keys.specs.Least.{Least}
+use Rattle.model.specs.Table.{at}
 use Rattle.session.specs.Seen.{time-key}
 use Rattle.table.specs.Places.{table-of}
 use Rattle.table.proofs.Built.{built-more, built-all}
@@ -28,9 +28,9 @@ pub returns : need.returns
 returns c =
     let rows = c .args .rows .now in
     let keys = built-all (c .loop-place .keys) (map time-key (table-of rows)) (c .loop-place .place) (omega arith) (omega (arith, length-made time-key rows)) (c .loop-place .inv .1) in
-    let is = c .least .ensures .found ∙ ap (least-of time-before) keys ∙ search-is (table-of rows) in
+    let is = search-is (table-of rows) (c .least .result) (subst (λ ks. Least time-before ks (c .least .result)) keys (c .least .ensures .least)) in
     let size = length-table rows ∙ c .told-rows in
-    let inside = subst (λ r. found r (λ i. i < 64)) (sym is) (subst (λ n. found (chosen (table-of rows)) (λ i. i < n)) size (chosen-inside (table-of rows))) in
+    let inside = subst (λ n. found (c .least .result) (λ i. i < n)) size (chosen-inside (table-of rows) (c .least .result) is) in
     record {
       is = is; inside = inside;
       soonest = λ d. times-read rows d (c .least .result) (c .told-rows) inside ∙ sym (least-is (table-of rows) ∙ ap (mapped (λ (i : ℕ). at (table-of rows) i .virtual-time)) (sym is));

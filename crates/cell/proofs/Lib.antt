@@ -1,0 +1,3 @@
+pub mod Offering
+pub mod Standing
+pub mod Telling
