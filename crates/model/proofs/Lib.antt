@@ -16,3 +16,4 @@ pub mod Laws
 pub mod Histories
 pub mod Meant
 pub mod Order
+pub mod Figures

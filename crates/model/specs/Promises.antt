@@ -25,17 +25,21 @@ use Rattle.model.specs.Calls.{Call, closing, turn, step}
 use Rattle.model.specs.Sound.{Sound}
 use Rattle.model.specs.History.{frame-of, taken-from, brought-to, bytes, sum-to, after, sent, sent-by, brought, Always, Throughout, Able}
 
+-- what all queues may send while a session of price p that leads by d sends s bytes
+abbrev pub most-sent : ℕ → ℕ → ℕ → ℕ
+most-sent p s d = p * (s + d) + longest * (2 * p + 62)
+
 module _ {C : Type 0} (M : Meaning C) where
   -- ---- the share
 
-  -- In every stretch of calls before which and after each of which session i has a frame waiting and a good channel: what all
-  -- queues send is at most its price times what its own queue sends and what it led by at first, and 1,536 bytes 2 p + 62 times.
+  -- In every stretch of calls before which and after each of which session i has a frame waiting and a good channel, all queues
+  -- together send at most its price times what its own queue sends and what it led by just before the stretch, and besides
+  -- 1,536 bytes 2 p + 62 times.
   abbrev pub Gets-its-share : Type 0
   Gets-its-share =
       Throughout M (λ x. (stretch : List Call) (i : ℕ) →
-      let p = at (x .table) i .price in
       Always M (Able M i) x stretch →
-      sent M x stretch ≤ p * (sent-by M i x stretch + lead (at (x .table) i)) + longest * (2 * p + 62))
+      sent M x stretch ≤ most-sent (at (x .table) i .price) (sent-by M i x stretch) (lead (at (x .table) i)))
 
   -- ---- turns
 

@@ -1,4 +1,5 @@
 // The cell as a definition, and one function for each thing that it promises, so that the check asks for its proof.
+ghost use Rattle.model.specs.Figures.{Figures-stand};
 ghost use Rattle.model.specs.Laws.{Departs-justly};
 ghost use Rattle.model.specs.Meaning.{meaning};
 ghost use Rattle.model.specs.Promises.{Gets-its-share, Idles-only-if-none-able, Chooses-the-least-advanced, Sends-what-it-says, Counts-every-byte, Always-balanced, Active-exactly-when, Refuses-without-trace, Mark-never-falls, Closing-sheds-nothing, Stays-within, Keeps-its-books, Promises};
@@ -99,6 +100,13 @@ pub fn keeps_its_books<C: Chooser>() -> u8
 // A departing lag is handed out whole, by floors, to the active alone, until nobody is left to depart.
 pub fn departs_justly() -> u8
     ensures { λ _. ⌜ Departs-justly ⌝ }
+{
+    0
+}
+
+// The worked figures, of a new cell with any keep and chooser.
+pub fn reproduces_the_figures<C: Chooser>() -> u8
+    ensures { λ _. ⌜ Figures-stand {C = C} (meaning pick afterServed afterJoined afterCleared) ⌝ }
 {
     0
 }
