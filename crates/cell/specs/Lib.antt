@@ -1,3 +1,4 @@
 pub mod Found
 pub mod View
 pub mod Plans
+pub mod Answers
