@@ -2,3 +2,4 @@ pub mod Found
 pub mod View
 pub mod Plans
 pub mod Answers
+pub mod Asked

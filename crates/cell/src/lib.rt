@@ -5,8 +5,10 @@ mod calls;
 mod plans;
 mod put;
 mod settle;
+mod standing;
 mod state;
 mod unmade;
 
+pub use standing::Standing;
 pub use state::Cell;
 pub use unmade::Unmade;

@@ -10,7 +10,7 @@ use Rattle.table.proofs.Tables.{written}
 use Rattle.table.specs.Places.{table-of}
 use Rattle.cell.specs.Found.{Offerable}
 use Rattle.cell.specs.declared.before.Before.{Before}
-use Rattle.cell.proofs.Standing.{put-row}
+use Rattle.cell.proofs.Rows.{put-row}
 use Rattle.cell.proofs.put.put.Needs as need
 
 pub settle-requires : need.settle-requires

@@ -5,7 +5,7 @@ use Rattle.model.proofs.Books.{new-sound}
 use Rattle.model.specs.Cell.{Cell}
 use Rattle.model.specs.Sound.{In-order}
 use Rattle.model.specs.Table.{Table}
-use Rattle.cell.proofs.Standing.{table-vacant}
+use Rattle.cell.proofs.Rows.{table-vacant}
 use Rattle.cell.proofs.state.Cell.new.Needs as need
 
 pub ghost-result : need.ghost-result
