@@ -49,7 +49,14 @@ impl<C> Cell<C> {
         ensures is { λ r. ⌜ r ≡ booked-total (view (now (self .entry)) .table) ⌝ }
         ensures most { λ r. ⌜ r ≤ 720720 ⌝ }
     {
-        booked_total(&self.rows) as u32
+        self.total() as u32
+    }
+
+    fn total(&self) -> u64
+        ensures is { λ r. ⌜ r ≡ booked-total (view (now (self .entry)) .table) ⌝ }
+        ensures most { λ r. ⌜ r ≤ 720720 ⌝ }
+    {
+        booked_total(&self.rows)
     }
 
     // How many turns the cell has accepted.
