@@ -1,3 +1,4 @@
 pub mod Offering
-pub mod Standing
+pub mod Rows
+pub mod Steps
 pub mod Telling

@@ -1,3 +1,5 @@
 pub mod Found
 pub mod View
 pub mod Plans
+pub mod Answers
+pub mod Asked

@@ -3,7 +3,7 @@ use native.Mathlib.Omega.{arith}
 use Rattle.model.specs.Table.{at}
 use Rattle.table.proofs.Tables.{at-table}
 use Rattle.table.specs.Places.{table-of}
-use Rattle.cell.proofs.Standing.{rows-sized}
+use Rattle.cell.proofs.Rows.{rows-sized}
 use Rattle.cell.proofs.state.Cell.row.Needs as need
 
 pub listed : need.listed
