@@ -11,8 +11,17 @@ use Rattle.model.specs.Calls.{decide, heard, turn-after, accepted, step}
 use Rattle.model.specs.History.{after}
 use Rattle.model.specs.Figures.{Worked}
 
+-- all that tables and calls compute with
+tables : ℕ
+unfolding at change vacancies total first least greatest chosen stayed turned share departed depart departures
+tables = 0
+
+calls : ℕ
+unfolding mark-after told joins all-joins settled decide heard turn-after accepted step after
+calls = 0
+
 pub worked : {C : Type 0} (M : Meaning C) (keep : ℕ) (c : C) → Worked M keep c
-unfolding at change vacancies total first least greatest chosen stayed turned share departed depart departures mark-after told joins all-joins settled decide heard turn-after accepted step after
+unfolding tables calls
 worked M keep c = record {
   rate-7 = refl;
   rate-17 = refl;

@@ -4,6 +4,7 @@ pub mod Share
 pub mod Settle
 pub mod Departures
 pub mod Chosen
+pub mod Senders
 pub mod Turn
 pub mod Turned
 pub mod Calm
@@ -17,3 +18,4 @@ pub mod Histories
 pub mod Meant
 pub mod Order
 pub mod Figures
+pub mod Uses

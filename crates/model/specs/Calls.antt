@@ -9,16 +9,20 @@ use Rattle.std.specs.declared.option.Option.the-variants.{None, Some}
 use Rattle.std.specs.declared.result.Result.{Result}
 use Rattle.std.specs.declared.result.Result.the-variants.{Ok, Err}
 use Rattle.answer.specs.declared.refusal.Refusal.{Refusal}
-use Rattle.answer.specs.declared.refusal.Refusal.the-variants.{PlaceTooHigh, PlaceOpen, PlaceNotOpen, RateNotInTariff, LinkOverbooked, SessionActive, AheadOfMark, LengthOutOfRange, QueueFull, NoneActive, TurnsUsedUp, KeepTooHigh}
+use Rattle.answer.specs.declared.refusal.Refusal.the-variants.{PlaceTooHigh, PlaceOpen, PlaceNotOpen, RateNotInTariff}
+use Rattle.answer.specs.declared.refusal.Refusal.the-variants.{LinkOverbooked}
+use Rattle.answer.specs.declared.refusal.Refusal.the-variants.{SessionActive, AheadOfMark, LengthOutOfRange, QueueFull}
+use Rattle.answer.specs.declared.refusal.Refusal.the-variants.{NoneActive, TurnsUsedUp, KeepTooHigh}
 use Rattle.answer.specs.declared.turn.Answer.{Answer}
 use Rattle.answer.specs.declared.turn.Answer.the-variants.{Done, Turn as Turned}
 use Rattle.tariff.specs.Tariff.{link, in-tariff, price-of}
 use Rattle.model.specs.Limits.{places, longest, most-waiting, most-turns, quarters}
 use Rattle.model.specs.Session.{Frame, Session, vacant, fresh, with-virtual-time, with-good, with-active, with-queue}
-use Rattle.model.specs.Table.{Table, at, change, vacancies, booked-total, none-active, chosen}
+use Rattle.model.specs.Table.{at, change, vacancies, booked-total, none-active, chosen}
 use Rattle.model.specs.Lists.{Credit, Extra, offer}
 use Rattle.model.specs.Meaning.{Meaning}
-use Rattle.model.specs.Turn.{Way, by-right, by-allowance, by-credit, unclaimed, by-extra, idle, way-of, sender, length-of, answer-of, turned}
+use Rattle.model.specs.Turn.{Way, by-right, by-allowance, by-credit, unclaimed, by-extra, idle}
+use Rattle.model.specs.Turn.{way-of, sender, length-of, answer-of, turned}
 use Rattle.model.specs.Departures.{departures}
 use Rattle.model.specs.Cell.{Cell, settled}
 

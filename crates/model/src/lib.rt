@@ -2,8 +2,10 @@
 ghost use Rattle.model.specs.Figures.{Figures-stand};
 ghost use Rattle.model.specs.Laws.{Departs-justly};
 ghost use Rattle.model.specs.Meaning.{meaning};
-ghost use Rattle.model.specs.Promises.{Gets-its-share, Idles-only-if-none-able, Chooses-the-least-advanced, Sends-what-it-says, Counts-every-byte, Always-balanced, Active-exactly-when, Refuses-without-trace, Mark-never-falls, Closing-sheds-nothing, Stays-within, Keeps-its-books, Promises};
-
+ghost use Rattle.model.specs.Promises.{Promises, Gets-its-share, Idles-only-if-none-able, Chooses-the-least-advanced};
+ghost use Rattle.model.specs.Promises.{Sends-what-it-says, Counts-every-byte, Always-balanced, Active-exactly-when};
+ghost use Rattle.model.specs.Promises.{Refuses-without-trace, Refuses-in-order, Mark-never-falls, Closing-sheds-nothing};
+ghost use Rattle.model.specs.Promises.{Stays-within, Keeps-its-books};
 use chooser::Chooser;
 
 // Every promise below, of a cell with any chooser.
@@ -65,6 +67,13 @@ pub fn active_exactly_when<C: Chooser>() -> u8
 // A refused call changes nothing.
 pub fn refuses_without_trace<C: Chooser>() -> u8
     ensures { λ _. ⌜ Refuses-without-trace {C = C} (meaning pick afterServed afterJoined afterCleared) ⌝ }
+{
+    keeps_its_promises::<C>()
+}
+
+// Refusals are looked for in the order of their numbers.
+pub fn refuses_in_order<C: Chooser>() -> u8
+    ensures { λ _. ⌜ Refuses-in-order {C = C} (meaning pick afterServed afterJoined afterCleared) ⌝ }
 {
     keeps_its_promises::<C>()
 }
