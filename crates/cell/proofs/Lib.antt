@@ -6,3 +6,4 @@ pub mod Shares
 pub mod Releases
 pub mod Turning
 pub mod Asking
+pub mod Passing

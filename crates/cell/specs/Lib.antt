@@ -6,3 +6,4 @@ pub mod Asked
 pub mod Room
 pub mod Ways
 pub mod Picks
+pub mod Turns

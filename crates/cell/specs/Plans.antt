@@ -28,10 +28,10 @@ opened x place =
     (cond (not (at (x .table) place .booked)) (Err PlaceNotOpen)
     (Ok (at (x .table) place)))
 
--- a session, unless something refuses it
-abbrev pub unless : Option Refusal → Session → Result Session Refusal
-unless None s = Ok s
-unless (Some why) s = Err why
+-- what a call is about, unless something refuses it
+abbrev pub unless : {X : Type 0} → Option Refusal → X → Result X Refusal
+unless None x = Ok x
+unless (Some why) x = Err why
 
 abbrev pub plan : {C : Type 0} → Cell C → Call → Session → Result Session Refusal
 plan x call s = unless (refusal x call) s

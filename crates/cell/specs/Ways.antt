@@ -1,7 +1,7 @@
 -- How a turn goes, as the code says it and as the definition does.
 use Prim.Native.Nat.{ℕ}
 use Rattle.std.specs.declared.option.Option.{Option}
-use Rattle.std.specs.declared.option.Option.the-variants.{Some}
+use Rattle.std.specs.declared.option.Option.the-variants.{None, Some}
 use Rattle.answer.specs.declared.turn.Kind.{Kind}
 use Rattle.answer.specs.declared.turn.Turn.{Turn}
 use Rattle.model.specs.Cell.{Cell}
@@ -18,6 +18,15 @@ way-as (ByCredit q) = by-credit q
 way-as Unclaimed = unclaimed
 way-as (ByExtra q) = by-extra q
 way-as Idle = idle
+
+-- the place that a turn is handed on to
+abbrev pub handed-to : The-way → Option ℕ
+handed-to by-right = None
+handed-to by-allowance = None
+handed-to (by-credit q) = Some q
+handed-to unclaimed = None
+handed-to (by-extra q) = Some q
+handed-to idle = None
 
 -- a cell of which only the chooser and the table are looked at
 abbrev pub only : {C : Type 0} → C → Table → Cell C

@@ -11,6 +11,7 @@ mod send;
 mod settle;
 mod standing;
 mod state;
+mod turn;
 mod unmade;
 mod way;
 

@@ -8,11 +8,11 @@ use Rattle.std.specs.Slices.{found}
 use Rattle.std.specs.declared.option.Option.the-variants.{None}
 use Rattle.keys.specs.Kinds.{time-before}
 use Rattle.keys.specs.Least.{Least}
-use Rattle.model.specs.Table.{at}
+use Rattle.model.specs.Table.{at, is-none}
 use Rattle.session.specs.Seen.{time-key}
 use Rattle.table.specs.Places.{table-of}
 use Rattle.table.proofs.Built.{built-more, built-all}
-use Rattle.table.proofs.Dues.{search-is, chosen-inside, least-is}
+use Rattle.table.proofs.Dues.{search-is, chosen-inside, least-is, idle-is}
 use Rattle.table.proofs.Offering.{length-made, getD-made}
 use Rattle.table.proofs.Tables.{length-table, times-read}
 use Rattle.table.proofs.times.due.Needs as need
@@ -32,6 +32,8 @@ returns c =
     let size = length-table rows ∙ c .told-rows in
     let inside = subst (λ n. found (c .least .result) (λ i. i < n)) size (chosen-inside (table-of rows) (c .least .result) is) in
     record {
-      is = is; inside = inside;
+      is = is;
+      inside = inside;
+      idle = ap is-none is ∙ sym (idle-is (table-of rows));
       soonest = λ d. times-read rows d (c .least .result) (c .told-rows) inside ∙ sym (least-is (table-of rows) ∙ ap (mapped (λ (i : ℕ). at (table-of rows) i .virtual-time)) (sym is));
     }
