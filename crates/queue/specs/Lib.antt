@@ -1,0 +1,3 @@
+pub mod Fifo
+pub mod Ring
+pub mod Waiting

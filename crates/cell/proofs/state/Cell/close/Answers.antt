@@ -1,0 +1,52 @@
+use mathlib.Core.Path.{_≡_, sym, ap, _∙_}
+use Rattle.std.proofs.shelf.Results.{err-from-errBy}
+use Rattle.std.specs.declared.result.Result.the-variants.{Err}
+use Rattle.model.proofs.Meant.{lawful}
+use Rattle.model.proofs.Order.{books}
+use Rattle.model.specs.Calls.{Outcome}
+use Rattle.model.specs.Meaning.{Meaning, Lawful, meaning}
+use Rattle.session.specs.Seen.{seen}
+use Rattle.table.specs.Places.{table-of}
+use Rattle.cell.specs.Answers.{answered}
+use Rattle.cell.specs.View.{view}
+use Rattle.cell.proofs.Steps.{closing-leaves, refused, answer-is, cell-is, can-offer, in-order}
+use Rattle.cell.proofs.state.Cell.close.Given as given
+use Rattle.cell.proofs.state.Cell.close.Needs as need
+
+abbrev meant : (g : given.Over) → Meaning (g .C .Denot)
+meant g = meaning (g .C·Chooser .pick) (g .C·Chooser .afterServed) (g .C·Chooser .afterJoined) (g .C·Chooser .afterCleared)
+
+law : (g : given.Over) → Lawful (meant g)
+law g = lawful (g .C·Chooser .pick) (g .C·Chooser .afterServed) (g .C·Chooser .afterJoined) (g .C·Chooser .afterCleared) (g .C·Chooser·met .picks)
+
+pub put-requires : need.put-requires
+put-requires g c κs =
+    let x = c .args .self .now in
+    let l = closing-leaves (meant g) (view x) (c .args .place) (seen (c .in-Continue-row .row)) (c .in-Continue-row .ensures tt) in
+    record { inside = l .0; fair = can-offer (meant g) (view x) _ _ _ _ l (law g) (books (x .ordered)) }
+
+pub ghost-self : need.ghost-self
+ghost-self g c =
+    let x = c .args .self .now in
+    let l = closing-leaves (meant g) (view x) (c .args .place) (seen (c .in-Continue-row .row)) (c .in-Continue-row .ensures tt) in
+    let p = c .put .ensures in
+    (in-order (meant g) (view x) _ _ _ _ l (law g) (books (x .ordered)) (table-of (c .put .last .rows)) (c .put .last .mark) (c .put .last .chooser) (p .after) (p .marked) (p .told), tt)
+
+pub returns : need.returns
+returns g c =
+    let x = c .args .self .now in
+    let l = closing-leaves (meant g) (view x) (c .args .place) (seen (c .in-Continue-row .row)) (c .in-Continue-row .ensures tt) in
+    let p = c .put .ensures in
+    record {
+      answer = answer-is (meant g) (view x) _ _ _ _ l;
+      after = cell-is (meant g) (view x) _ _ _ _ l (table-of (c .put .last .rows)) (c .put .last .mark) (c .put .last .chooser) (p .after) (p .marked) (p .told);
+    }
+
+pub returns-in-Break-row : need.returns-in-Break-row
+returns-in-Break-row g c =
+    let p = err-from-errBy (c .from-residual .result) (c .from-residual .ensures .1) in
+    let r = refused (meant g) (view (c .args .self .now)) _ _ (c .in-Break-row .field-0 .0) (c .in-Break-row .ensures tt) in
+    record {
+      answer = ap answered (p .1 ∙ ap Err (p .2)) ∙ sym (ap (λ (o : Outcome (meant g)). o .answer) r);
+      after = sym (ap (λ (o : Outcome (meant g)). o .cell) r);
+    }

@@ -1,0 +1,5 @@
+pub mod Built
+pub mod Dues
+pub mod Offering
+pub mod Tables
+pub mod Walks
