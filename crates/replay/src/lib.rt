@@ -1,4 +1,4 @@
-// The events of a recording, applied to a cell.
+// The events of a recording, applied to a cell, and the line of each record.
 ghost use mathlib.Core.Path.{_≡_};
 ghost use Rattle.cell.specs.Answers.{answered};
 ghost use Rattle.cell.specs.Turns.{turned-as};
