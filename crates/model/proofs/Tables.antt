@@ -9,10 +9,10 @@ use Rattle.std.specs.declared.option.Option.the-variants.{None, Some}
 use mathlib.Core.Logic.{_⊎_, inl, inr}
 use lib.IntN.{ℤ, pos, _+ℤ_}
 use borrow.Author.Differences.{ints}
-use lib.ListN.{length, getD, set}
+use lib.ListN.{length, getD, set, replicate}
 use Rattle.std.proofs.shelf.Tests.{cases-bool, both-ways, cond-true}
 use Rattle.model.specs.Session.{Session, vacant}
-use Rattle.model.specs.Table.{Table, at, change, total, totalℤ, first, next}
+use Rattle.model.specs.Table.{Table, at, change, vacancies, total, totalℤ, first, next}
 
 pub length-change : (t : Table) (k : ℕ) (f : Session → Session) → length (change t k f) ≡ length t
 unfolding change
@@ -215,6 +215,11 @@ unfolding at
 at-is [] k = refl
 at-is (s ∷ t) zero = refl
 at-is (s ∷ t) (suc k) = at-is t k
+
+pub vacancies-is : (n : ℕ) → vacancies n ≡ replicate n vacant
+unfolding vacancies
+vacancies-is zero = refl
+vacancies-is (suc n) = ap (λ (t : Table). vacant ∷ t) (vacancies-is n)
 
 pub change-is : (t : Table) (k : ℕ) (f : Session → Session) → change t k f ≡ set t k (f (getD t k vacant))
 unfolding change

@@ -16,14 +16,14 @@ use Rattle.model.specs.Table.{Table, at, change}
 
 -- ---- who sends
 
--- how the chosen session's turn goes; where it is handed on, to which place
+-- how the chosen session's turn goes
 pub data Way : Type 0 where
-  by-right : Way
-  by-allowance : Way
-  by-credit : ℕ → Way
-  unclaimed : Way  -- it leads beyond its allowance, but nobody is owed
-  by-extra : ℕ → Way
-  idle : Way
+  by-right : Way  -- able and not leading, it sends
+  by-allowance : Way  -- able and leading, it sends within its allowance
+  by-credit : ℕ → Way  -- a lagging session is paid back: that place sends
+  unclaimed : Way  -- able and leading beyond its allowance, it sends, since nobody is owed
+  by-extra : ℕ → Way  -- it cannot send; that place, which is owed nothing, uses the turn
+  idle : Way  -- nobody can send
 
 -- the way over the place picked, or another if none is
 abbrev pub picked : Option ℕ → (ℕ → Way) → Way → Way
