@@ -1,17 +1,18 @@
 -- What a sound offer says of each place, and how entries are shown to be sound.
 use mathlib.Core.Path.{_≡_, refl, sym, ap, subst, _∙_}
 use mathlib.Core.Logic.{⊎-elim}
-use mathlib.Core.Bool.{Bool, true, false, cond, _&&_}
+use mathlib.Core.Bool.{true, false}
 use mathlib.Core.List.{List, [], _∷_}
 use Prim.Native.Nat.{ℕ, zero, suc, _*_, _≤_, _<_}
 use native.Mathlib.Nat.{mul-le-mul-right, zero-mul, one-mul}
 use native.Mathlib.Omega.{arith}
-use lib.Dec.{leb, ltb, eqb}
+use lib.Dec.{ltb}
 use lib.IntN.{ℤ, pos, negsuc, natAbs}
 use lib.ListN.{length, getD, set, replicate}
 use Rattle.std.specs.declared.option.Option.the-variants.{Some, None}
 use Rattle.std.proofs.shelf.Lists.{length-set, length-replicate, getD-past}
 use Rattle.std.proofs.shelf.Tests.{and-parts, and-from, eqb-true, eq-eqb, leb-true, le-leb, ltb-false, cases-bool, cond-true, cond-false}
+use Rattle.keys.proofs.Options.{some-none, same-some}
 use Rattle.chooser.specs.declared.entry.Entry.{Entry}
 use Rattle.chooser.specs.Offers.{idle, offered, lag-bound, is-idle, is-booked, sound-entry, all-sound, sound, nobody, entry-at, offered-at}
 
@@ -83,23 +84,17 @@ pub sound-nobody : sound nobody ≡ true
 sound-nobody = and-from _ _ (eq-eqb _ _ (length-replicate 64 idle)) (all-idle 64)
 
 -- what the entry of a place says, where there is one and where there is none
-some-none : {X : Type 0} (x : X) → Some x ≡ None → ⊥
-some-none x p = let z : _≡_ {A = ℕ} 0 1 = cc in omega arith
-
-same-some : {X : Type 0} (x y : X) → Some x ≡ Some y → x ≡ y
-same-some x y p = cc
-
 pub entry-some : (es : List Entry) (place : ℕ) (e : Entry) → Some e ≡ entry-at es place → e ≡ getD es place idle
 entry-some es place e h =
     ⊎-elim
-    (λ t. same-some e (getD es place idle) (h ∙ cond-true (ltb place 64) (Some (getD es place idle)) None t))
-    (λ f. absurd (some-none e (h ∙ cond-false (ltb place 64) (Some (getD es place idle)) None f)))
+    (λ t. same-some _ e (getD es place idle) (sym h) (cond-true (ltb place 64) (Some (getD es place idle)) None t))
+    (λ f. absurd (some-none _ e (sym h) (cond-false (ltb place 64) (Some (getD es place idle)) None f)))
     (cases-bool (ltb place 64))
 
 pub entry-none : (es : List Entry) (place : ℕ) → None ≡ entry-at es place → 64 ≤ place
 entry-none es place h =
     ⊎-elim
-    (λ t. absurd (some-none (getD es place idle) (sym (h ∙ cond-true (ltb place 64) (Some (getD es place idle)) None t))))
+    (λ t. absurd (some-none _ (getD es place idle) (cond-true (ltb place 64) (Some (getD es place idle)) None t) (sym h)))
     (λ f. ltb-false place 64 f)
     (cases-bool (ltb place 64))
 

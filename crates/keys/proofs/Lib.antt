@@ -1,3 +1,4 @@
+pub mod Options
 pub mod Orders
 pub mod Finds
 pub mod Places

@@ -1,7 +1,7 @@
 -- The first of several places by their keys.
-use mathlib.Core.Path.{_≡_, sym, ap, subst, _∙_}
+use mathlib.Core.Path.{_≡_, sym, subst, _∙_}
 use mathlib.Core.Logic.{⊎-elim}
-use mathlib.Core.Bool.{Bool, true, false, cond}
+use mathlib.Core.Bool.{Bool, true, false}
 use mathlib.Core.List.{List}
 use Prim.Native.Nat.{ℕ, _≤_, _<_}
 use native.Mathlib.Omega.{arith}
@@ -12,15 +12,10 @@ use Rattle.std.proofs.shelf.Counted.{getD-map-counting, length-map-counting, fi
 use Rattle.std.proofs.shelf.Lists.{getD-past}
 use Rattle.std.proofs.shelf.Tests.{cases-bool, cases-lt, cond-true, cond-false}
 use Rattle.keys.specs.Order.{Order}
-use Rattle.keys.specs.Least.{least-of, Least}
-use Rattle.keys.specs.Places.{key-at, by-place, first-place, First-at, First}
+use Rattle.keys.specs.Least.{Least}
+use Rattle.keys.specs.Places.{key-at, by-place, first-place, First}
+use Rattle.keys.proofs.Options.{some-none, same-some}
 use Rattle.keys.proofs.Finds.{least-is, least-of-is-least}
-
-some-none : {K : Type 0} (x : K) → Some x ≡ None → ⊥
-some-none x p = let z : _≡_ {A = ℕ} 0 1 = cc in omega arith
-
-same-some : {K : Type 0} (x y : K) → Some x ≡ Some y → x ≡ y
-same-some x y p = cc
 
 module _ {K : Type 0} (before : K → K → Bool) (n : ℕ) (candidate : ℕ → Bool) (key : ℕ → K) where
   row-at : (i : ℕ) → i < n → getD (by-place n candidate key) i None ≡ key-at candidate key i
@@ -38,7 +33,8 @@ module _ {K : Type 0} (before : K → K → Bool) (n : ℕ) (candidate : ℕ →
   row-none i h f = row-at i h ∙ cond-false (candidate i) (Some (key i)) None f
 
   -- a row that has the key of each place is the row of them
-  pub row-is : (row : List (Option K)) → length row ≡ n → ((i : ℕ) → i < n → getD row i None ≡ key-at candidate key i) → row ≡ by-place n candidate key
+  pub row-is : (row : List (Option K)) → length row ≡ n
+      → ((i : ℕ) → i < n → getD row i None ≡ key-at candidate key i) → row ≡ by-place n candidate key
   unfolding by-place
   row-is row sized h = fill-by-all (key-at candidate key) row n None sized h
 
@@ -48,14 +44,14 @@ module _ {K : Type 0} (before : K → K → Bool) (n : ℕ) (candidate : ℕ →
       ⊎-elim
       (λ (lt : i < n).
       ⊎-elim
-      (λ t. (lt, t, same-some (key i) k (sym (row-key i lt t) ∙ is)))
-      (λ f. absurd (some-none k (sym is ∙ row-none i lt f)))
+      (λ t. (lt, t, same-some _ (key i) k (row-key i lt t) is))
+      (λ f. absurd (some-none _ k is (row-none i lt f)))
       (cases-bool (candidate i)))
-      (λ (ge : n ≤ i). absurd (some-none k (sym is ∙ row-past i ge)))
+      (λ (ge : n ≤ i). absurd (some-none _ k is (row-past i ge)))
       (cases-lt i n)
 
   first-from : (r : Option ℕ) → Least before (by-place n candidate key) r → First before n candidate key r
-  first-from None h = λ i lt. ⊎-elim (λ t. absurd (some-none (key i) (sym (row-key i lt t) ∙ h i))) (λ f. f) (cases-bool (candidate i))
+  first-from None h = λ i lt. ⊎-elim (λ t. absurd (some-none _ (key i) (row-key i lt t) (h i))) (λ f. f) (cases-bool (candidate i))
   first-from (Some i) (k, l) =
       let here = row-some i k (l .candidate) in
       record {
@@ -71,8 +67,12 @@ module _ {K : Type 0} (before : K → K → Bool) (n : ℕ) (candidate : ℕ →
     key i,
     record {
       candidate = row-key i (h .inside) (h .chosen);
-      none-before = λ j other is. let there = row-some j other is in subst (λ (x : K). before x (key i) ≡ false) (there .2) (h .none-before j (there .0) (there .1));
-      lowest = λ j other lt is. let there = row-some j other is in subst (λ (x : K). before (key i) x ≡ true) (there .2) (h .lowest j lt (there .1));
+      none-before = λ j other is.
+          let there = row-some j other is in
+          subst (λ (x : K). before x (key i) ≡ false) (there .2) (h .none-before j (there .0) (there .1));
+      lowest = λ j other lt is.
+          let there = row-some j other is in
+          subst (λ (x : K). before (key i) x ≡ true) (there .2) (h .lowest j lt (there .1));
     },
   )
 

@@ -1,5 +1,5 @@
 -- The pick has the largest debt.
-use mathlib.Core.Path.{_≡_, ap, sym, subst}
+use mathlib.Core.Path.{_≡_, ap}
 use mathlib.Core.Bool.{true, false}
 use mathlib.Core.List.{List}
 use Prim.Native.Nat.{ℕ}
@@ -16,7 +16,7 @@ use Rattle.chooser.specs.Offers.{sound, Picks-offered}
 use Rattle.chooser.specs.Picks.{Picks-first}
 use Rattle.chooser.proofs.Sound.{exact-at}
 use Rattle.chooser.proofs.Picks.{picks-first, picks-offered}
-use Rattle.largest_debt.specs.Largest.{debt-at, debt-key, largest-debt, Largest, Picks-largest}
+use Rattle.largest_debt.specs.Largest.{debt-at, debt-key, largest-debt, Picks-largest}
 use Rattle.largest_debt.proofs.Ratios.{same-order}
 
 not-under : (a b : ℤ) → ltZ a b ≡ false → b ≤ℤ a
@@ -28,7 +28,9 @@ module _ (es : List Entry) (s : sound es ≡ true) where
   picks-largest-from (Some place) h = record {
     offered = h .offered;
     none-greater = λ other t. not-under (debt-at es place) (debt-at es other) (h .none-before other t);
-    none-steeper = λ other t. same-order _ _ _ _ _ _ (exact-at es s other) (exact-at es s place) (not-under (debt-at es place) (debt-at es other) (h .none-before other t));
+    none-steeper = λ other t.
+        same-order _ _ _ _ _ _ (exact-at es s other) (exact-at es s place)
+        (not-under (debt-at es place) (debt-at es other) (h .none-before other t));
     lowest = λ other t same. h .lowest other t (ap debt same);
   }
 

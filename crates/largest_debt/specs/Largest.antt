@@ -36,7 +36,8 @@ largest-debt es = first-by debt-before (debt-key es) es
 pub record Largest (es : List Entry) (place : ℕ) : Type 0 where
   pub offered : offered-at es place ≡ true
   pub none-greater : (other : ℕ) → offered-at es other ≡ true → debt-at es other ≤ℤ debt-at es place
-  pub none-steeper : (other : ℕ) → offered-at es other ≡ true → (lag-at es other *ℤ pos (rate-at es place)) ≤ℤ (lag-at es place *ℤ pos (rate-at es other))
+  pub none-steeper : (other : ℕ) → offered-at es other ≡ true
+      → (lag-at es other *ℤ pos (rate-at es place)) ≤ℤ (lag-at es place *ℤ pos (rate-at es other))
   pub lowest : (other : ℕ) → offered-at es other ≡ true → debt-at es other ≡ debt-at es place → place ≤ other
 
 -- none is picked only when no place is offered

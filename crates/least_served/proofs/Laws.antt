@@ -1,6 +1,6 @@
 -- The pick has been served least.
-use mathlib.Core.Path.{_≡_, ap, sym}
-use mathlib.Core.Bool.{true, false}
+use mathlib.Core.Path.{_≡_, ap}
+use mathlib.Core.Bool.{true}
 use mathlib.Core.List.{List}
 use Prim.Native.Nat.{ℕ, _<_}
 use Rattle.std.specs.declared.option.Option.{Option}
@@ -14,7 +14,7 @@ use Rattle.chooser.specs.Offers.{sound, Picks-offered}
 use Rattle.chooser.specs.Picks.{Picks-first}
 use Rattle.chooser.proofs.Picks.{picks-first, picks-offered, picked-inside}
 use Rattle.least_served.specs.declared.counts.LeastServed.{LeastServed}
-use Rattle.least_served.specs.Served.{count-at, count-key, least-served, Least-served, Picks-least-served}
+use Rattle.least_served.specs.Served.{count-at, count-key, least-served, Picks-least-served}
 
 module _ (c : LeastServed) (line : Line) (es : List Entry) (s : sound es ≡ true) where
   picks-least-from : (r : Option ℕ) → Picks-first count-before (count-key c line) es r → Picks-least-served c line es r
@@ -32,4 +32,4 @@ module _ (c : LeastServed) (line : Line) (es : List Entry) (s : sound es ≡ tru
   least-is-offered = picks-offered count-order es s (count-key c line)
 
   pub least-inside : (place : ℕ) → Some place ≡ least-served c line es → place < 64
-  least-inside place is = picked-inside es s (least-served c line es) least-is-offered place (sym is)
+  least-inside = picked-inside es s (least-served c line es) least-is-offered

@@ -1,16 +1,16 @@
 -- The counts of a new one stay low, so that the stop makes no difference.
-use mathlib.Core.Path.{_≡_, refl, sym, ap, subst, _∙_}
+use mathlib.Core.Path.{_≡_, refl, sym, ap, _∙_}
 use mathlib.Core.Logic.{⊎-elim}
-use mathlib.Core.Bool.{Bool, true, false, cond}
+use mathlib.Core.Bool.{true, cond}
 use mathlib.Core.List.{List, [], _∷_}
-use Prim.Native.Nat.{ℕ, zero, suc, _+_, _*_, _/_, _≤_, _<_, min, max}
+use Prim.Native.Nat.{ℕ, zero, suc, _+_, _*_, _/_, _≤_}
 use native.Mathlib.Nat.{mul-comm, mul-le-mul}
 use native.Mathlib.Omega.{arith}
-use lib.Dec.{ltb, leb}
+use lib.Dec.{ltb}
 use lib.ListN.{getD, set, replicate}
 use Rattle.std.specs.declared.option.Option.{Option}
 use Rattle.std.specs.declared.option.Option.the-variants.{Some, None}
-use Rattle.std.proofs.shelf.Tests.{and-parts, cases-bool, cond-true, cond-false, cond-both, leb-true}
+use Rattle.std.proofs.shelf.Tests.{and-parts, cases-bool, cond-false, cond-both, leb-true}
 use Rattle.tariff.specs.Tariff.{in-tariff}
 use Rattle.tariff.proofs.Wholes.{factored}
 use Rattle.chooser.specs.declared.entry.Entry.{Entry}
@@ -18,7 +18,8 @@ use Rattle.chooser.specs.declared.entry.Line.{Line}
 use Rattle.chooser.specs.declared.entry.Line.the-variants.{Credit, Extra}
 use Rattle.chooser.proofs.Sound.{price-bound}
 use Rattle.least_served.specs.declared.counts.LeastServed.{LeastServed}
-use Rattle.least_served.specs.Served.{unserved, counts, count-at, with-count, least-served, stopped, countable, after-served, raised, joined-count, after-joined, after-cleared}
+use Rattle.least_served.specs.Served.{unserved, count-at, with-count, least-served, raised, joined-count}
+use Rattle.least_served.specs.Served.{stopped, countable, after-served, after-joined, after-cleared}
 use Rattle.least_served.specs.Tellings.{Telling, served, joined, cleared, told, told-all, serving, servings, Counts-stay-low, Never-stops}
 
 -- no count is above b
@@ -78,15 +79,19 @@ added-low place length price t =
     let p = and-parts _ _ (and-parts _ _ t .1) in
     mul-le-mul (leb-true length 1536 (p .0)) (price-low price (p .1))
 
-pub served-low : (b : ℕ) (c : LeastServed) (line : Line) (place length price : ℕ) → Within b c → Within (most + b) (after-served stopped c line place length price)
+pub served-low : (b : ℕ) (c : LeastServed) (line : Line) (place length price : ℕ) → Within b c
+    → Within (most + b) (after-served stopped c line place length price)
 served-low b c line place length price low =
     let own : count-at c line place ≤ b = low line place in
     cond-both (countable place length price) (with-count c line place (stopped (count-at c line place + length * price))) c (Within (most + b))
-    (λ t. let more = added-low place length price t in with-count-low (most + b) c line place _ (omega arith) (within-more b (most + b) c (omega arith) low))
+    (λ t.
+    let more = added-low place length price t in
+    with-count-low (most + b) c line place _ (omega arith) (within-more b (most + b) c (omega arith) low))
     (λ _. within-more b (most + b) c (omega arith) low)
 
 -- while no count can be past 2^63 - 1, the stop makes no difference
-pub served-exact : (b : ℕ) (c : LeastServed) (line : Line) (place length price : ℕ) → Within b c → most + b ≤ 9223372036854775807 → after-served stopped c line place length price ≡ after-served (λ n. n) c line place length price
+pub served-exact : (b : ℕ) (c : LeastServed) (line : Line) (place length price : ℕ) → Within b c → most + b ≤ 9223372036854775807
+    → after-served stopped c line place length price ≡ after-served (λ n. n) c line place length price
 served-exact b c line place length price low far =
     ⊎-elim
     (λ t.
@@ -115,7 +120,8 @@ told-all-low n c (t ∷ ts) low =
     within-more (most * (servings ts + (serving t + n))) (most * (serving t + servings ts + n)) _ (omega arith)
     (told-all-low (serving t + n) (told stopped c t) ts (told-low n c t low))
 
-told-all-exact : (n : ℕ) (c : LeastServed) (ts : List Telling) → Within (most * n) c → servings ts + n ≤ 2000000000 → told-all stopped c ts ≡ told-all (λ m. m) c ts
+told-all-exact : (n : ℕ) (c : LeastServed) (ts : List Telling) → Within (most * n) c → servings ts + n ≤ 2000000000
+    → told-all stopped c ts ≡ told-all (λ m. m) c ts
 told-all-exact n c [] low few = refl
 told-all-exact n c (t ∷ ts) low few =
     told-all-exact (serving t + n) (told stopped c t) ts (told-low n c t low) (omega arith)

@@ -12,8 +12,8 @@ pub returns-in-Break-entry : need.returns-in-Break-entry
 returns-in-Break-entry c =
     let o = c .args .offer .now in
     let place = c .args .place in
-    c .from-residual .ensures
-    ∙ sym (cond-false (offered-at (o .entries) place) (Some (debt-key (o .entries) place)) None (nobody-past (o .entries) (o .ok) place (entry-none (o .entries) place (c .in-Break-entry .ensures tt))))
+    let past = nobody-past (o .entries) (o .ok) place (entry-none (o .entries) place (c .in-Break-entry .ensures tt)) in
+    c .from-residual .ensures ∙ sym (cond-false (offered-at (o .entries) place) (Some (debt-key (o .entries) place)) None past)
 
 pub debt-of-requires : need.debt-of-requires
 debt-of-requires c κs =

@@ -15,9 +15,11 @@ order g = record { irreflexive = g .K·Key·met .irreflexive; transitive = g .K�
 
 pub loop-i-again : need.loop-i-again
 loop-i-again g c =
-    sofar-step (order g) (c .args .keys .now) _ _ _ _ (c .loop-i-test .taken) (c .index-keys-i .is) (c .better-best .ensures) (c .loop-i .inv)
+    sofar-step (order g) (c .args .keys .now) _ _ _ _
+    (c .loop-i-test .taken) (c .index-keys-i .is) (c .better-best .ensures) (c .loop-i .inv)
 
-searched : (g : given.Over) (row : List (Option (g .K .Denot))) (i : ℕ) (best b : Option (ℕ × g .K .Denot)) → length row ≤ i → Sofar (g .K·Key .before) row i best → best ≡ b → Least (g .K·Key .before) row (place-of b)
+searched : (g : given.Over) (row : List (Option (g .K .Denot))) (i : ℕ) (best b : Option (ℕ × g .K .Denot))
+    → length row ≤ i → Sofar (g .K·Key .before) row i best → best ≡ b → Least (g .K·Key .before) row (place-of b)
 searched g row i best b past s is = subst (λ x. Least (g .K·Key .before) row (place-of x)) is (sofar-all (order g) row i best past s)
 
 pub returns-in-None : need.returns-in-None

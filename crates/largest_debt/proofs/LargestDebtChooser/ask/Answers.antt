@@ -1,17 +1,15 @@
-use mathlib.Core.Path.{ap, sym, subst, _∙_}
-use native.Mathlib.Omega.{arith}
+use mathlib.Core.Path.{sym, subst}
 use Rattle.keys.specs.Kinds.{debt-before}
-use Rattle.keys.specs.Least.{least-of}
-use Rattle.keys.proofs.Places.{row-is}
-use Rattle.chooser.specs.Offers.{offered-at}
+use Rattle.chooser.proofs.Picks.{row-pick}
 use Rattle.largest_debt.specs.Largest.{debt-key, Picks-largest}
 use Rattle.largest_debt.proofs.Laws.{picks-largest}
 use Rattle.largest_debt.proofs.LargestDebtChooser.ask.Needs as need
 
 pub returns : need.returns
 returns c =
-    let es = c .args .offer .now .entries in
+    let o = c .args .offer .now in
+    let loop = c .loop-place in
     let value =
-    c .least .ensures .found
-    ∙ ap (least-of debt-before) (row-is debt-before 64 (offered-at es) (debt-key es) (c .loop-place .debts) (c .loop-place .inv .0) (λ k h. c .loop-place .inv .1 k (omega (arith, c .loop-place-test .left)))) in
-    record { value = value; largest = subst (Picks-largest es) (sym value) (picks-largest es (c .args .offer .now .ok)) }
+    row-pick debt-before (o .entries) (debt-key (o .entries)) (loop .debts) _ _
+    (loop .inv .0) (c .loop-place-test .left) (loop .inv .1) (c .least .ensures .found) in
+    record { value = value; largest = subst (Picks-largest (o .entries)) (sym value) (picks-largest (o .entries) (o .ok)) }

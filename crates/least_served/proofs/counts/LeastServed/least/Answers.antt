@@ -1,9 +1,6 @@
-use mathlib.Core.Path.{ap, sym, subst, _∙_}
-use native.Mathlib.Omega.{arith}
+use mathlib.Core.Path.{sym, subst}
 use Rattle.keys.specs.Kinds.{count-before}
-use Rattle.keys.specs.Least.{least-of}
-use Rattle.keys.proofs.Places.{row-is}
-use Rattle.chooser.specs.Offers.{offered-at}
+use Rattle.chooser.proofs.Picks.{row-pick}
 use Rattle.least_served.specs.Served.{count-key, Picks-least-served}
 use Rattle.least_served.proofs.Laws.{picks-least-served}
 use Rattle.least_served.proofs.counts.LeastServed.least.Needs as need
@@ -12,8 +9,9 @@ pub returns : need.returns
 returns c =
     let s = c .args .self .now in
     let line = c .args .line in
-    let es = c .args .offer .now .entries in
+    let o = c .args .offer .now in
+    let loop = c .loop-place in
     let value =
-    c .least .ensures .found
-    ∙ ap (least-of count-before) (row-is count-before 64 (offered-at es) (count-key s line) (c .loop-place .counts) (c .loop-place .inv .0) (λ k h. c .loop-place .inv .1 k (omega (arith, c .loop-place-test .left)))) in
-    record { value = value; least = subst (Picks-least-served s line es) (sym value) (picks-least-served s line es (c .args .offer .now .ok)) }
+    row-pick count-before (o .entries) (count-key s line) (loop .counts) _ _
+    (loop .inv .0) (c .loop-place-test .left) (loop .inv .1) (c .least .ensures .found) in
+    record { value = value; least = subst (Picks-least-served s line (o .entries)) (sym value) (picks-least-served s line (o .entries) (o .ok)) }
