@@ -10,5 +10,7 @@ mod state;
 mod unmade;
 
 pub use standing::Standing;
+pub use standing::StandingDebug;
+pub use standing::StandingPartialEq;
 pub use state::Cell;
 pub use unmade::Unmade;

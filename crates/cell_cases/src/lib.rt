@@ -1,0 +1,5 @@
+// The cell on cases.
+#[cfg(test)]
+mod picture;
+#[cfg(test)]
+mod tests;
