@@ -1,31 +1,27 @@
 -- The books of a cell: in order when it is new, kept in order by every call, and what they say of each number.
-use Prim.Native.Nat.{ℕ, zero, suc, _+_, _*_, _≤_, _<_}
+use Prim.Native.Nat.{ℕ, zero, suc, _*_, _≤_}
 use native.Mathlib.Omega.{arith}
 use native.Mathlib.Nat.{le-trans}
 use mathlib.Core.Path.{_≡_, refl, sym, ap, _∙_, subst}
-use mathlib.Core.Bool.{Bool, true, false, _||_}
-use mathlib.Core.List.{List, [], _∷_}
+use mathlib.Core.Bool.{true, false, _||_}
 use mathlib.Core.Logic.{_⊎_, inl, inr}
 use lib.ListN.{length}
-use lib.IntN.{ℤ, pos, _+ℤ_, natAbs}
+use lib.IntN.{ℤ, pos, natAbs}
 use lib.Signed.{ltZ}
 use borrow.Author.Differences.{ints}
-use Rattle.std.specs.declared.option.Option.{Option}
-use Rattle.std.specs.declared.option.Option.the-variants.{None, Some}
-use Rattle.std.proofs.shelf.Tests.{cases-bool, both-ways, false≢true, or-parts, or-from, cases-lt}
-use Rattle.chooser.specs.Offers.{lag-bound}
-use Rattle.model.specs.Limits.{places, longest, quarters, dearest}
+use Rattle.std.specs.declared.option.Option.the-variants.{Some}
+use Rattle.std.proofs.shelf.Tests.{cases-bool, false≢true, or-parts, or-from}
+use Rattle.model.specs.Limits.{places, longest, quarters}
 use Rattle.model.specs.Session.{Session, vacant, waiting, leads, above-zero}
-use Rattle.model.specs.Table.{Table, at, vacancies, total, totalℤ, booked-total, least}
+use Rattle.model.specs.Table.{at, vacancies, total, totalℤ, least}
 use Rattle.model.specs.Meaning.{Meaning, Lawful}
 use Rattle.model.specs.Cell.{Cell}
 use Rattle.model.specs.Calls.{Call, step, new}
-use Rattle.model.specs.Sound.{Orderly, Books, Sound}
-use Rattle.model.proofs.Tables.{at-past}
-use Rattle.model.proofs.Ledger.{Row, Draft, Book, Ordered, owing}
+use Rattle.model.specs.Sound.{Orderly, Sound}
+use Rattle.model.proofs.Ledger.{Row, Book, Ordered, owing}
 use Rattle.model.proofs.Share.{least-reached}
 use Rattle.model.proofs.Settle.{least-some}
-use Rattle.model.proofs.Turn.{lag-within}
+use Rattle.model.proofs.Senders.{lag-within}
 use Rattle.model.proofs.Calm.{vacant-row}
 use Rattle.model.proofs.Calls.{step-good}
 use Rattle.model.proofs.Bounds.{Low, Within, step-within}
@@ -76,7 +72,8 @@ new-within keep c k = record { keep = k; mark = omega arith; rows = λ j. subst 
 
 -- ---- the layers of the proof and the books say the same
 
-pub row-status : (m : ℕ) (s : Session) → Row m s → (s .active ≡ true → (waiting s || leads s) ≡ true) → s .active ≡ (waiting s || leads s)
+pub row-status : (m : ℕ) (s : Session) → Row m s → (s .active ≡ true → (waiting s || leads s) ≡ true) →
+    s .active ≡ (waiting s || leads s)
 row-status m s r b = by (cases-bool (s .active))
   where
     by : (s .active ≡ true) ⊎ (s .active ≡ false) → s .active ≡ (waiting s || leads s)
@@ -120,7 +117,8 @@ module _ {C : Type 0} (x : Cell C) where
     modest = w .keep;
   }
 
-  least-mark : Sound x → (j : ℕ) → at (x .table) j .active ≡ true → (least (x .table) ≡ Some (x .mark)) × (x .mark ≤ at (x .table) j .virtual-time)
+  least-mark : Sound x → (j : ℕ) → at (x .table) j .active ≡ true →
+      (least (x .table) ≡ Some (x .mark)) × (x .mark ≤ at (x .table) j .virtual-time)
   least-mark b j a =
       let r = least-some (x .table) j a in
       let e = b .lowest (r .0) (r .1) in
@@ -156,7 +154,8 @@ module _ {C : Type 0} (x : Cell C) where
 pub new-sound : {C : Type 0} (keep : ℕ) (c : C) → keep ≤ quarters → Sound (new keep c)
 new-sound keep c k = sound-from (new keep c) (new-ordered keep c) (new-within keep c k)
 
-pub step-sound : {C : Type 0} (M : Meaning C) → Lawful M → (x : Cell C) (call : Call) → Sound x → Sound (step M x call .cell)
+pub step-sound : {C : Type 0} (M : Meaning C) → Lawful M → (x : Cell C) (call : Call) → Sound x →
+    Sound (step M x call .cell)
 step-sound M law x call b =
     sound-from (step M x call .cell) (step-good M law x call (ordered-of x b) .ordered) (step-within M law x call (ordered-of x b) (within-of x b))
 
@@ -164,8 +163,4 @@ step-sound M law x call b =
 
 -- no lag is further from zero than what all lagging sessions together are owed
 pub lag-low : {C : Type 0} (x : Cell C) (i : ℕ) → Ordered x → natAbs (at (x .table) i .lag) ≤ longest * x .turns
-lag-low x i s = by (cases-lt i (length (x .table)))
-  where
-    by : (i < length (x .table)) ⊎ (length (x .table) ≤ i) → natAbs (at (x .table) i .lag) ≤ longest * x .turns
-    by (inl h) = le-trans (lag-within (x .mark) (x .table) i (s .book .draft) h) (s .owing)
-    by (inr h) = omega (arith, ap (λ (s : Session). natAbs (s .lag)) (at-past (x .table) i h))
+lag-low x i s = le-trans (lag-within (x .table) i (s .book .draft .balance)) (s .owing)

@@ -4,11 +4,10 @@ use native.Mathlib.Omega.{arith}
 use native.Mathlib.Nat.{zero-mul}
 use native.Mathlib.Decide.{ℕ-discrete}
 use mathlib.Core.Path.{_≡_, refl, sym, ap, _∙_, subst}
-use mathlib.Core.Bool.{Bool, true, false, cond, _&&_, _||_}
+use mathlib.Core.Bool.{Bool, true, false, cond, _||_}
 use mathlib.Core.List.{List, [], _∷_, _++_}
 use mathlib.Core.Logic.{_⊎_, inl, inr}
 use lib.ListN.{length}
-use Rattle.std.specs.shelf.Lists.{All}
 use Rattle.std.proofs.shelf.Lists.{length-append}
 use Rattle.std.proofs.shelf.Elements.{all-append}
 use Rattle.std.proofs.shelf.Tests.{cases-bool, both-ways, true≢false, false≢true, or-left, cond-true, cond-false}
@@ -16,7 +15,7 @@ use Rattle.tariff.specs.Tariff.{link, in-tariff, price-of}
 use Rattle.tariff.proofs.Wholes.{factored}
 use Rattle.model.specs.Limits.{longest, most-waiting}
 use Rattle.model.specs.Session.{Frame, Session, vacant, fresh, with-good, able, waiting, some-wait, leads}
-use Rattle.model.specs.Table.{Table, at, change, total, totalℤ, booked-total}
+use Rattle.model.specs.Table.{Table, at, change, total, booked-total}
 use Rattle.model.specs.Cell.{mark-after}
 use Rattle.model.specs.Calls.{arrived}
 use Rattle.model.specs.Sound.{Fits}
@@ -33,9 +32,11 @@ pub record Calm (m : ℕ) (s s′ : Session) : Type 0 where
   pub busy : s′ .active ≡ true → (waiting s′ || leads s′) ≡ true
   pub kept : able s ≡ true → (s′ .price ≡ s .price) × (s′ .virtual-time ≡ s .virtual-time)
 
-module _ (m : ℕ) (t : Table) (p : ℕ) (f : Session → Session) (inside : p < length t) (b : Book m t) (k : Calm m (at t p) (f (at t p))) (few : booked-total (change t p f) ≤ link) where
+module _ (m : ℕ) (t : Table) (p : ℕ) (f : Session → Session) (inside : p < length t) (b : Book m t)
+    (k : Calm m (at t p) (f (at t p))) (few : booked-total (change t p f) ≤ link) where
   -- what holds of each place as it was, and of the one that is changed, holds after
-  after-change : (P : ℕ → Session → Type 0) → P p (f (at t p)) → ((j : ℕ) → P j (at t j)) → (j : ℕ) → P j (at (change t p f) j)
+  after-change : (P : ℕ → Session → Type 0) → P p (f (at t p)) → ((j : ℕ) → P j (at t j)) → (j : ℕ) →
+      P j (at (change t p f) j)
   after-change P new old j = by (ℕ-discrete p j)
     where
       by : Dec (p ≡ j) → P j (at (change t p f) j)
@@ -54,7 +55,9 @@ module _ (m : ℕ) (t : Table) (p : ℕ) (f : Session → Session) (inside : p <
   calm-held = after-change (λ j s. at t j .active ≡ true → m ≤ s .virtual-time) (k .held) (λ j a. b .draft .rows j .ahead a)
 
   pub calm-book : Book (mark-after m t (change t p f)) (change t p f)
-  calm-book = settle m t (change t p f) calm-draft calm-held (after-change (λ _ s. s .active ≡ true → (waiting s || leads s) ≡ true) (k .busy) (b .busy))
+  calm-book =
+      settle m t (change t p f) calm-draft calm-held
+      (after-change (λ _ s. s .active ≡ true → (waiting s || leads s) ≡ true) (k .busy) (b .busy))
 
   pub calm-rises : m ≤ mark-after m t (change t p f)
   calm-rises = mark-rises m t (change t p f) calm-draft calm-held
@@ -65,12 +68,18 @@ module _ (m : ℕ) (t : Table) (p : ℕ) (f : Session → Session) (inside : p <
       let e = total-same (excess m) t p f (k .same) in
       omega arith
 
-  pub calm-kept : (i : ℕ) → able (at t i) ≡ true → (at (change t p f) i .price ≡ at t i .price) × (at (change t p f) i .virtual-time ≡ at t i .virtual-time) × (at (change t p f) i .lag ≡ at t i .lag)
-  calm-kept = after-change (λ j s. able (at t j) ≡ true → (s .price ≡ at t j .price) × (s .virtual-time ≡ at t j .virtual-time) × (s .lag ≡ at t j .lag)) (λ a. (k .kept a .0, k .kept a .1, k .lag)) (λ j a. (refl, refl, refl))
+  pub calm-kept : (i : ℕ) → able (at t i) ≡ true →
+      (at (change t p f) i .price ≡ at t i .price) × (at (change t p f) i .virtual-time ≡ at t i .virtual-time) ×
+      (at (change t p f) i .lag ≡ at t i .lag)
+  calm-kept =
+      after-change
+      (λ j s. able (at t j) ≡ true → (s .price ≡ at t j .price) × (s .virtual-time ≡ at t j .virtual-time) × (s .lag ≡ at t j .lag))
+      (λ a. (k .kept a .0, k .kept a .1, k .lag)) (λ j a. (refl, refl, refl))
 
 -- ---- the calls that are no turn
 
-pub open-calm : (m r : ℕ) (s : Session) → Row m s → s .booked ≡ false → in-tariff r ≡ true → Calm m s (fresh r (price-of r))
+pub open-calm : (m r : ℕ) (s : Session) → Row m s → s .booked ≡ false → in-tariff r ≡ true →
+    Calm m s (fresh r (price-of r))
 open-calm m r s row b e = record {
   row = record {
     priced = λ _. factored r e;
@@ -95,7 +104,15 @@ open-calm m r s row b e = record {
     none k = let z : 0 - m ≡ 0 = omega arith in ap (λ (j : ℕ). j * k) z ∙ zero-mul k
 
 pub vacant-row : (m : ℕ) → Row m vacant
-vacant-row m = record { priced = λ e. absurd (false≢true e); bare = λ _. refl; near = omega arith; ahead = λ e. absurd (false≢true e); quiet = λ _. (refl, refl); frames = tt; room = omega arith }
+vacant-row m = record {
+  priced = λ e. absurd (false≢true e);
+  bare = λ _. refl;
+  near = omega arith;
+  ahead = λ e. absurd (false≢true e);
+  quiet = λ _. (refl, refl);
+  frames = tt;
+  room = omega arith;
+}
 
 pub close-calm : (m : ℕ) (s : Session) → Row m s → s .active ≡ false → s .virtual-time ≤ m → Calm m s vacant
 close-calm m s row e v =
@@ -131,7 +148,8 @@ came m s r = by (cases-bool (s .active))
         let e = cond-false (s .active) (s .virtual-time) (max (s .virtual-time) m) a in
         (omega arith, omega (arith, r .near), omega arith, λ b. absurd (both-ways (s .active) a b))
 
-pub arrive-calm : (m : ℕ) (f : Frame) (s : Session) → Row m s → s .booked ≡ true → Fits f → length (s .queue) < most-waiting → Calm m s (arrived m f s)
+pub arrive-calm : (m : ℕ) (f : Frame) (s : Session) → Row m s → s .booked ≡ true → Fits f →
+    length (s .queue) < most-waiting → Calm m s (arrived m f s)
 arrive-calm m f s row b fits more =
     let v = came m s row in
     record {
@@ -151,7 +169,8 @@ arrive-calm m f s row b fits more =
       kept = λ a. (refl, v .3 (able-active m s row a));
     }
 
-pub report-calm : (m : ℕ) (b : Bool) (s : Session) → Row m s → s .booked ≡ true → (s .active ≡ true → (waiting s || leads s) ≡ true) → Calm m s (with-good b s)
+pub report-calm : (m : ℕ) (b : Bool) (s : Session) → Row m s → s .booked ≡ true →
+    (s .active ≡ true → (waiting s || leads s) ≡ true) → Calm m s (with-good b s)
 report-calm m b s row opened busy = record {
   row = record {
     priced = row .priced;

@@ -1,10 +1,8 @@
 -- Whose turn it is, said by what it is: active, at the smallest virtual time, and the lowest place of those.
-use Prim.Native.Nat.{ℕ, zero, suc, _≤_, _<_}
+use Prim.Native.Nat.{ℕ, _≤_, _<_}
 use native.Mathlib.Omega.{arith}
-use native.Mathlib.Decide.{ℕ-discrete}
-use mathlib.Core.Path.{_≡_, refl, sym, ap, _∙_, subst}
-use mathlib.Core.Bool.{Bool, true, false, _&&_}
-use mathlib.Core.List.{List, [], _∷_}
+use mathlib.Core.Path.{_≡_, refl, sym, ap, _∙_}
+use mathlib.Core.Bool.{true, false}
 use mathlib.Core.Logic.{_⊎_, inl, inr}
 use lib.Dec.{eqb}
 use lib.ListN.{length}
@@ -31,7 +29,9 @@ next-from t v c e f = record {
   inside = first-found (due v) t c f .0;
   active = hit .0;
   least = λ j a. omega (arith, up j a, level);
-  before = λ j a l. apart (at t j .virtual-time) (up j a) (λ g. both-ways (due v (at t j)) (first-before (due v) t c f j l) (due-from v (at t j) a g));
+  before =
+      λ j a l. apart (at t j .virtual-time) (up j a)
+      (λ g. both-ways (due v (at t j)) (first-before (due v) t c f j l) (due-from v (at t j) a g));
 }
   where
     hit : (at t c .active ≡ true) × (eqb (at t c .virtual-time) v ≡ true)
@@ -68,7 +68,9 @@ chosen-some t e = by (least t) refl e
   where
     hit : (v : ℕ) → least t ≡ Some v → (o : Option ℕ) → first (due v) t ≡ o → (c : ℕ) × (o ≡ Some c)
     hit v f (Some c) g = (c, refl)
-    hit v f None g = let r = least-reached t v f in absurd (both-ways (due v (at t (r .0))) (first-none (due v) t refl g (r .0)) (due-from v (at t (r .0)) (r .2) (r .3)))
+    hit v f None g =
+        let r = least-reached t v f in
+        absurd (both-ways (due v (at t (r .0))) (first-none (due v) t refl g (r .0)) (due-from v (at t (r .0)) (r .2) (r .3)))
 
     by : (o : Option ℕ) → least t ≡ o → is-none o ≡ false → (c : ℕ) × (chosen-at t o ≡ Some c)
     by None f g = absurd (true≢false g)

@@ -1,5 +1,5 @@
 -- What holds in every history of a new cell: what each call keeps, carried along a run.
-use Prim.Native.Nat.{ℕ, _+_, _*_, _≤_, _<_}
+use Prim.Native.Nat.{ℕ, _+_, _≤_}
 use native.Mathlib.Omega.{arith}
 use native.Mathlib.Nat.{le-trans, le-refl}
 use mathlib.Core.Path.{_≡_, refl, sym, ap, _∙_, subst}
@@ -7,7 +7,6 @@ use mathlib.Core.Bool.{Bool, true, false, cond}
 use mathlib.Core.List.{List, [], _∷_, _++_}
 use mathlib.Core.Logic.{_↔_}
 use lib.Dec.{eqb}
-use lib.IntN.{pos, natAbs}
 use Rattle.std.specs.declared.option.Option.{Option}
 use Rattle.std.specs.declared.option.Option.the-variants.{None, Some}
 use Rattle.std.specs.declared.result.Result.{Result}
@@ -22,18 +21,25 @@ use Rattle.answer.specs.declared.turn.Kind.the-variants.{Normal, Credit, Kept, 
 use Rattle.answer.specs.declared.turn.Sent.{Sent}
 use Rattle.answer.specs.declared.turn.Turn.{Turn}
 use Rattle.model.specs.Limits.{places, idle-length, quarters}
-use Rattle.model.specs.Session.{Frame, Session, able}
+use Rattle.model.specs.Session.{Frame, able}
 use Rattle.model.specs.Table.{Table, at, chosen}
 use Rattle.model.specs.Meaning.{Meaning, Lawful}
-use Rattle.model.specs.Turn.{Way, by-right, by-allowance, by-credit, unclaimed, by-extra, idle, sender, kind, sent-of, length-of, answer-of}
+use Rattle.model.specs.Turn.{Way, by-right, by-allowance, by-credit, unclaimed, by-extra, idle, sender, kind, sent-of}
+use Rattle.model.specs.Turn.{length-of, answer-of}
 use Rattle.model.specs.Cell.{Cell, settled}
-use Rattle.model.specs.Calls.{Call, opening, closing, arrival, report, turn, refusal, Outcome, decide, turn-after, turn-of, accepted, outcome, step, new}
-use Rattle.model.specs.History.{sent-from, taken-from, brought-to, frame-of, bytes, sum-to, after, sent, sent-by, brought, Throughout}
-use Rattle.model.specs.Promises.{Gets-its-share, Idles-only-if-none-able, Chooses-the-least-advanced, Says-who-sent, Says-when-idle, Keeps-the-queues, Sends-what-it-says, Counts-every-byte, Always-balanced, Active-exactly-when, Refuses-without-trace, Mark-never-falls, Closing-sheds-nothing, Stays-within, Keeps-its-books, Promises}
+use Rattle.model.specs.Calls.{Call, opening, closing, arrival, report, turn, refusal, Outcome, decide, turn-after}
+use Rattle.model.specs.Calls.{accepted, outcome, step, new}
+use Rattle.model.specs.History.{sent-from, taken-from, brought-to, frame-of, bytes, sum-to, after, sent, sent-by}
+use Rattle.model.specs.History.{brought, Throughout}
+use Rattle.model.specs.Promises.{Gets-its-share, Idles-only-if-none-able, Chooses-the-least-advanced, Says-who-sent}
+use Rattle.model.specs.Promises.{Says-when-idle, Keeps-the-queues, Sends-what-it-says, Counts-every-byte}
+use Rattle.model.specs.Promises.{Always-balanced, Active-exactly-when, Refuses-without-trace, Refuses-in-order}
+use Rattle.model.specs.Promises.{Mark-never-falls, Closing-sheds-nothing, Stays-within, Keeps-its-books, Promises}
 use Rattle.model.proofs.Ledger.{Ordered}
-use Rattle.model.proofs.Share.{share-from, stays-fine}
+use Rattle.model.proofs.Share.{share-from}
 use Rattle.model.proofs.Chosen.{chosen-next}
-use Rattle.model.proofs.Turn.{Rightly, decides}
+use Rattle.model.proofs.Senders.{Rightly, decides}
+use Rattle.model.proofs.Turn.{each-way}
 use Rattle.model.proofs.Cases.{each-case}
 use Rattle.model.proofs.Calls.{step-good}
 use Rattle.model.proofs.Bounds.{Within, step-within}
@@ -70,15 +76,15 @@ not-idle k h e = absurd (false≢true (sym h ∙ ap idles e))
 
 -- what the way of a turn says of a sender
 way-idles : (t : Table) (c : ℕ) (w : Way) → Rightly t (at t c) w → (sent-of t (sender c w) ≡ None) ↔ ((i : ℕ) → able (at t i) ≡ false)
-way-idles t c by-right r = (λ e. no-sender _ e, λ h. absurd (both-ways (able (at t c)) (h c) r))
-way-idles t c by-allowance r = (λ e. no-sender _ e, λ h. absurd (both-ways (able (at t c)) (h c) r))
-way-idles t c unclaimed r = (λ e. no-sender _ e, λ h. absurd (both-ways (able (at t c)) (h c) r))
-way-idles t c (by-credit q) r = (λ e. no-sender _ e, λ h. absurd (both-ways (able (at t q)) (h q) (r .0)))
-way-idles t c (by-extra q) r = (λ e. no-sender _ e, λ h. absurd (both-ways (able (at t q)) (h q) (r .0)))
-way-idles t c idle r = (λ e. r, λ h. refl)
+way-idles t c w r =
+    each-way 0 0 t c (λ o _. (sent-of t o ≡ None) ↔ ((i : ℕ) → able (at t i) ≡ false))
+    (λ _ _ a. (λ e. no-sender _ e, λ h. absurd (both-ways (able (at t c)) (h c) a)))
+    (λ q p. (λ e. no-sender _ e, λ h. absurd (both-ways (able (at t q)) (h q) (p .ready))))
+    (λ h. (λ e. h, λ _. refl)) w r
 
 -- kind and length tell whether anybody sent
-way-says : (t : Table) (c : ℕ) (w : Way) → ((kind w ≡ Idle) ↔ (sent-of t (sender c w) ≡ None)) × (sent-of t (sender c w) ≡ None → length-of t (sender c w) ≡ idle-length)
+way-says : (t : Table) (c : ℕ) (w : Way) →
+    ((kind w ≡ Idle) ↔ (sent-of t (sender c w) ≡ None)) × (sent-of t (sender c w) ≡ None → length-of t (sender c w) ≡ idle-length)
 way-says t c by-right = ((λ e. not-idle Normal refl e, λ e. no-sender _ e), λ e. no-sender _ e)
 way-says t c by-allowance = ((λ e. not-idle Normal refl e, λ e. no-sender _ e), λ e. no-sender _ e)
 way-says t c unclaimed = ((λ e. not-idle Kept refl e, λ e. no-sender _ e), λ e. no-sender _ e)
@@ -90,7 +96,8 @@ module _ {C : Type 0} (M : Meaning C) (law : Lawful M) where
   -- ---- one call
 
   -- what holds of the turn of whoever is chosen holds of an accepted turn
-  turn-case : (x : Cell C) (P : Turn → Type 0) → Ordered x → ((c : ℕ) → chosen (x .table) ≡ Some c → P (answer-of (x .table) c (decide M x c))) →
+  turn-case : (x : Cell C) (P : Turn → Type 0) → Ordered x →
+      ((c : ℕ) → chosen (x .table) ≡ Some c → P (answer-of (x .table) c (decide M x c))) →
       (a : Turn) → step M x turn .answer ≡ Ok (Turned a) → P a
   unfolding accepted
   turn-case x P s h =
@@ -108,12 +115,17 @@ module _ {C : Type 0} (M : Meaning C) (law : Lawful M) where
       at (x .table) i .queue ≡ sent-from i (a .sent) (a .length) ++ at (step M x turn .cell .table) i .queue
   turn-takes x a i s e =
       let q = step-queued M law x turn i s in
-      let f = subst (λ (r : Reply). at (x .table) i .queue ++ brought-to i turn r ≡ taken-from i r ++ at (step M x turn .cell .table) i .queue) e q in
+      let f =
+      subst
+      (λ (r : Reply). at (x .table) i .queue ++ brought-to i turn r ≡ taken-from i r ++ at (step M x turn .cell .table) i .queue) e q in
       sym (append-nil (at (x .table) i .queue)) ∙ f
 
-  sent-takes : (x : Cell C) (a : Turn) (s : Sent) (i : ℕ) → Ordered x → step M x turn .answer ≡ Ok (Turned a) → a .sent ≡ Some s →
+  sent-takes : (x : Cell C) (a : Turn) (s : Sent) (i : ℕ) → Ordered x → step M x turn .answer ≡ Ok (Turned a) →
+      a .sent ≡ Some s →
       at (x .table) i .queue ≡ cond (eqb (s .sender) i) (frame-of s (a .length) ∷ []) [] ++ at (step M x turn .cell .table) i .queue
-  sent-takes x a s i o e f = turn-takes x a i o e ∙ ap (λ (r : Option Sent). sent-from i r (a .length) ++ at (step M x turn .cell .table) i .queue) f
+  sent-takes x a s i o e f =
+      turn-takes x a i o e ∙ ap
+      (λ (r : Option Sent). sent-from i r (a .length) ++ at (step M x turn .cell .table) i .queue) f
 
   -- a place closes at the mark or below
   Closed : Cell C → Call → Outcome M → Type 0
@@ -176,7 +188,9 @@ module _ {C : Type 0} (M : Meaning C) (law : Lawful M) where
   reached keep c ks = ordered (new keep c) ks (new-ordered keep c)
 
   reached-within : Throughout M (λ x. x .keep ≤ quarters → Within x)
-  reached-within keep c ks k = within (new keep c) ks (new-ordered keep c) (new-within keep c (subst (λ (n : ℕ). n ≤ quarters) (same-keep (new keep c) ks (new-ordered keep c)) k))
+  reached-within keep c ks k =
+      within (new keep c) ks (new-ordered keep c)
+      (new-within keep c (subst (λ (n : ℕ). n ≤ quarters) (same-keep (new keep c) ks (new-ordered keep c)) k))
 
   -- ---- the promises
 
@@ -189,7 +203,8 @@ module _ {C : Type 0} (M : Meaning C) (law : Lawful M) where
   idle-turns keep c ks =
       let x = after M (new keep c) ks in
       let s = reached keep c ks in
-      turn-case x (λ a. (a .sent ≡ None) ↔ ((i : ℕ) → able (at (x .table) i) ≡ false)) s (λ c e. way-idles (x .table) c (decide M x c) (decides M law x c s))
+      turn-case x (λ a. (a .sent ≡ None) ↔ ((i : ℕ) → able (at (x .table) i) ≡ false)) s
+      (λ c e. way-idles (x .table) c (decide M x c) (decides M law x c s))
 
   pub chooses : Chooses-the-least-advanced M
   chooses keep c ks =
@@ -200,15 +215,18 @@ module _ {C : Type 0} (M : Meaning C) (law : Lawful M) where
   says-who keep c ks a s e f =
       let x = after M (new keep c) ks in
       let o = reached keep c ks in
-      let y = step M x turn .cell in (
-        sent-takes x a s (s .sender) o e f ∙ ap (λ (fs : List Frame). fs ++ at (y .table) (s .sender) .queue) (cond-true (eqb (s .sender) (s .sender)) (frame-of s (a .length) ∷ []) [] (eq-eqb (s .sender) (s .sender) refl)),
-        λ i n. sym (sent-takes x a s i o e f ∙ ap (λ (fs : List Frame). fs ++ at (y .table) i .queue) (cond-false (eqb (s .sender) i) (frame-of s (a .length) ∷ []) [] (ne-eqb (s .sender) i n))),
+      let one = frame-of s (a .length) ∷ [] in
+      let y : ℕ → List Frame = λ i. at (step M x turn .cell .table) i .queue in
+      let q = s .sender in (
+        sent-takes x a s q o e f ∙ ap (λ (fs : List Frame). fs ++ y q) (cond-true (eqb q q) one [] (eq-eqb q q refl)),
+        λ i n. sym (sent-takes x a s i o e f ∙ ap (λ (fs : List Frame). fs ++ y i) (cond-false (eqb q i) one [] (ne-eqb q i n))),
       )
 
   says-idle : Says-when-idle M
   says-idle keep c ks =
       let x = after M (new keep c) ks in
-      turn-case x (λ a. ((a .kind ≡ Idle) ↔ (a .sent ≡ None)) × (a .sent ≡ None → a .length ≡ idle-length)) (reached keep c ks) (λ c e. way-says (x .table) c (decide M x c))
+      turn-case x (λ a. ((a .kind ≡ Idle) ↔ (a .sent ≡ None)) × (a .sent ≡ None → a .length ≡ idle-length)) (reached keep c ks)
+      (λ c e. way-says (x .table) c (decide M x c))
 
   queues : Keeps-the-queues M
   queues keep c ks call i = step-queued M law (after M (new keep c) ks) call i (reached keep c ks)
@@ -216,10 +234,12 @@ module _ {C : Type 0} (M : Meaning C) (law : Lawful M) where
   pub says : Sends-what-it-says M
   says = (says-who, says-idle, queues)
 
-  counts-at : (i : ℕ) (x : Cell C) (ks : List Call) → Ordered x → bytes (at (x .table) i .queue) + brought M i x ks ≡ sent-by M i x ks + bytes (at (after M x ks .table) i .queue)
+  counts-at : (i : ℕ) (x : Cell C) (ks : List Call) → Ordered x →
+      bytes (at (x .table) i .queue) + brought M i x ks ≡ sent-by M i x ks + bytes (at (after M x ks .table) i .queue)
   unfolding after sent-by brought
   counts-at i x [] s = omega arith
-  counts-at i x (k ∷ ks) s = omega (arith, step-counts M law x k i s, counts-at i (step M x k .cell) ks (step-good M law x k s .ordered))
+  counts-at i x (k ∷ ks) s =
+      omega (arith, step-counts M law x k i s, counts-at i (step M x k .cell) ks (step-good M law x k s .ordered))
 
   adds-up : (x : Cell C) (ks : List Call) → Ordered x → sent M x ks ≡ sum-to places (λ i. sent-by M i x ks)
   unfolding sent sent-by
@@ -231,7 +251,8 @@ module _ {C : Type 0} (M : Meaning C) (law : Lawful M) where
       omega arith
 
   pub counts : Counts-every-byte M
-  counts keep c ks stretch = (λ i. counts-at i (after M (new keep c) ks) stretch (reached keep c ks), adds-up (after M (new keep c) ks) stretch (reached keep c ks))
+  counts keep c ks stretch =
+      (λ i. counts-at i (after M (new keep c) ks) stretch (reached keep c ks), adds-up (after M (new keep c) ks) stretch (reached keep c ks))
 
   pub balanced : Always-balanced M
   balanced keep c ks = let d = reached keep c ks .book .draft in (d .balance, λ i a. d .rows i .quiet a .0)
@@ -257,6 +278,13 @@ module _ {C : Type 0} (M : Meaning C) (law : Lawful M) where
           accepts (report p b) g = not-refused Done why (sym g)
           accepts turn g = not-refused _ why (sym g)
 
+  pub in-order : Refuses-in-order M
+  in-order x (opening p r) = refl
+  in-order x (closing p) = refl
+  in-order x (arrival p g n) = refl
+  in-order x (report p b) = refl
+  in-order x turn = refl
+
   pub mark-rises : Mark-never-falls M
   mark-rises keep c ks more = rises (after M (new keep c) ks) more (reached keep c ks)
 
@@ -267,15 +295,20 @@ module _ {C : Type 0} (M : Meaning C) (law : Lawful M) where
       let s = reached keep c ks in
       let g = step-good M law x (closing place) s in
       let y = step M x (closing place) .cell in
-      le-trans (closed x (closing place) s e) (le-trans (g .rises) (le-trans (rises y more (g .ordered)) (ordered y more (g .ordered) .book .draft .rows place .ahead a)))
+      le-trans (closed x (closing place) s e) (le-trans (g .rises) (le-trans (rises y more (g .ordered))
+      (ordered y more (g .ordered) .book .draft .rows place .ahead a)))
 
   pub stays-within : Stays-within M
   stays-within keep c ks k =
       let x = after M (new keep c) ks in
       let s = reached keep c ks in
       let w = reached-within keep c ks k in (
-        omega (arith, w .mark, s .few), s .few, s .book .draft .rates,
-        λ i. let r = w .rows i in (omega (arith, r .0, s .few), omega (arith, r .1, s .few), omega (arith, lag-low x i s, s .few), s .book .draft .rows i .room),
+        omega (arith, w .mark, s .few),
+        s .few,
+        s .book .draft .rates,
+        λ i. let r =
+            w .rows i in
+            (omega (arith, r .0, s .few), omega (arith, r .1, s .few), omega (arith, lag-low x i s, s .few), s .book .draft .rows i .room),
       )
 
   pub keeps-books : Keeps-its-books M
@@ -291,6 +324,7 @@ module _ {C : Type 0} (M : Meaning C) (law : Lawful M) where
     balance = balanced;
     status = status;
     refuses = refuses;
+    order = in-order;
     mark = mark-rises;
     sheds = sheds-nothing;
     within = stays-within;

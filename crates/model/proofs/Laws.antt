@@ -1,17 +1,18 @@
 -- What departures do, of any table.
-use Prim.Native.Nat.{ℕ, zero, suc, _+_, _-_, _*_, _/_, _<_}
+use Prim.Native.Nat.{ℕ, zero, suc, _+_, _-_, _*_, _/_}
 use native.Mathlib.Omega.{arith}
 use native.Mathlib.Nat.{zero-add, mul-zero, zero-div, sub-zero}
-use mathlib.Core.Path.{_≡_, refl, sym, ap, _∙_}
-use mathlib.Core.List.{List, [], _∷_}
+use mathlib.Core.Path.{_≡_, refl, ap, _∙_}
+use mathlib.Core.List.{[], _∷_}
 use lib.IntN.{ℤ, pos, _+ℤ_, +ℤ-idr}
 use lib.ListN.{take}
-use Rattle.model.specs.Session.{Session, with-lag}
+use Rattle.model.specs.Session.{with-lag}
 use Rattle.model.specs.Table.{Table, at, total, totalℤ}
 use Rattle.model.specs.Turn.{owed}
-use Rattle.model.specs.Departures.{active-rate, part, share}
-use Rattle.model.specs.Laws.{Hands-out-all, Floors, Spares-the-inactive, Departs-justly}
-use Rattle.model.proofs.Departures.{share-at, parts, whole, departures-end}
+use Rattle.model.specs.Departures.{departing, active-rate, part, share}
+use Rattle.model.specs.Laws.{Hands-out-all, Floors, Keeps-the-sum, Spares-the-inactive, Departs-justly}
+use Rattle.model.proofs.Tables.{first-found}
+use Rattle.model.proofs.Departures.{share-at, parts, whole, departed-sum, departures-end}
 
 hands-out-all : Hands-out-all
 hands-out-all lag t h =
@@ -22,7 +23,8 @@ take-share : (lag r c n : ℕ) (t : Table) → take n (share lag r c t) ≡ shar
 unfolding share
 take-share lag r c zero t = refl
 take-share lag r c (suc n) [] = refl
-take-share lag r c (suc n) (s ∷ t) = ap (λ (u : Table). owed (part lag r (c + active-rate s) - part lag r c) s ∷ u) (take-share lag r (c + active-rate s) n t)
+take-share lag r c (suc n) (s ∷ t) =
+    ap (λ (u : Table). owed (part lag r (c + active-rate s) - part lag r c) s ∷ u) (take-share lag r (c + active-rate s) n t)
 
 floors : Floors
 floors lag r n t =
@@ -33,10 +35,13 @@ floors lag r n t =
     ∙ parts lag r 0 e (take n t) (zero-add e)
     ∙ ap (λ (k : ℕ). totalℤ (λ s. s .lag) (take n t) +ℤ pos k) d
 
+keeps-sum : Keeps-the-sum
+keeps-sum t k e h = let f = first-found departing t k e in departed-sum t k (f .0) (f .1) (λ z. absurd (omega arith))
+
 spares : Spares-the-inactive
 spares lag r j t a =
     let p = share-at lag r 0 t j in
     p .1 ∙ ap (λ (z : ℤ). with-lag z (at t j)) (ap (λ (n : ℕ). at t j .lag +ℤ pos n) (p .2 a) ∙ +ℤ-idr (at t j .lag))
 
 pub departs-justly : Departs-justly
-departs-justly = record { whole = hands-out-all; floors = floors; spares = spares; ends = departures-end }
+departs-justly = record { whole = hands-out-all; floors = floors; sum = keeps-sum; spares = spares; ends = departures-end }

@@ -1,7 +1,7 @@
 -- What the argument about a session's share reads off a cell, and what one call may do to it. Nothing here says how a turn works.
-use Prim.Native.Nat.{ℕ, _+_, _-_, _*_, _≤_, _<_}
+use Prim.Native.Nat.{ℕ, _+_, _-_, _*_, _≤_}
 use mathlib.Core.Path.{_≡_}
-use mathlib.Core.Bool.{Bool, true, false, _||_}
+use mathlib.Core.Bool.{true, false, _||_}
 use mathlib.Core.Logic.{_⊎_}
 use lib.ListN.{length}
 use lib.IntN.{ℤ, pos, _+ℤ_}
@@ -61,9 +61,9 @@ pub record Move {C : Type 0} (i : ℕ) (x y : Cell C) (w s b : ℕ) : Type 0 whe
   pub given : (b ≤ s) ⊎ ((leads (at (x .table) i) ≡ true) × (b ≤ s + longest))
 
 -- what some calls in which session i is always able do to the accounts; a session that gave turns away while it led has got them
--- back but for less than one frame
+-- back but for one frame
 pub record Ran {C : Type 0} (i : ℕ) (x y : Cell C) (w s b : ℕ) : Type 0 where
   pub paid : w * link + total (excess (x .mark)) (x .table) + x .mark * link ≤ y .mark * link + total (excess (y .mark)) (y .table)
   pub price : at (y .table) i .price ≡ at (x .table) i .price
   pub time : at (y .table) i .virtual-time ≡ at (x .table) i .virtual-time + at (x .table) i .price * b
-  pub kept : (b ≤ s) ⊎ ((at (x .table) i .lag +ℤ pos b) ≤ℤ pos (s + 1535))
+  pub kept : (b ≤ s) ⊎ ((at (x .table) i .lag +ℤ pos b) ≤ℤ pos (s + longest))

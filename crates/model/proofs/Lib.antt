@@ -4,6 +4,7 @@ pub mod Share
 pub mod Settle
 pub mod Departures
 pub mod Chosen
+pub mod Senders
 pub mod Turn
 pub mod Turned
 pub mod Calm
@@ -16,3 +17,5 @@ pub mod Laws
 pub mod Histories
 pub mod Meant
 pub mod Order
+pub mod Figures
+pub mod Uses

@@ -1,13 +1,13 @@
 -- The books are a single fact: what a struct carries of them can be read again.
-use Prim.Native.Nat.{ℕ, _≤_}
+use Prim.Native.Nat.{ℕ}
 use native.Mathlib.Bridge.{le-prop}
 use native.Mathlib.Decide.{ℕ-discrete}
 use mathlib.Core.Path.{_≡_, ap}
-use mathlib.Core.Bool.{Bool, Bool-set}
+use mathlib.Core.Bool.{Bool-set}
 use mathlib.Core.List.{List, [], _∷_, List·isSet}
 use mathlib.Core.HLevel.{Unit-prop, Π-prop, →-prop, ×-prop, hedberg}
 use mathlib.Core.Logic.{∥∥₁-elim}
-use lib.IntN.{ℤ, ℤ-set}
+use lib.IntN.{ℤ-set}
 use Rattle.std.specs.shelf.Lists.{All}
 use Rattle.model.specs.Session.{Frame, Session}
 use Rattle.model.specs.Table.{Table, at}

@@ -9,16 +9,20 @@ use Rattle.std.specs.declared.option.Option.the-variants.{None, Some}
 use Rattle.std.specs.declared.result.Result.{Result}
 use Rattle.std.specs.declared.result.Result.the-variants.{Ok, Err}
 use Rattle.answer.specs.declared.refusal.Refusal.{Refusal}
-use Rattle.answer.specs.declared.refusal.Refusal.the-variants.{PlaceTooHigh, PlaceOpen, PlaceNotOpen, RateNotInTariff, LinkOverbooked, SessionActive, AheadOfMark, LengthOutOfRange, QueueFull, NoneActive, TurnsUsedUp, KeepTooHigh}
+use Rattle.answer.specs.declared.refusal.Refusal.the-variants.{PlaceTooHigh, PlaceOpen, PlaceNotOpen, RateNotInTariff}
+use Rattle.answer.specs.declared.refusal.Refusal.the-variants.{LinkOverbooked}
+use Rattle.answer.specs.declared.refusal.Refusal.the-variants.{SessionActive, AheadOfMark, LengthOutOfRange, QueueFull}
+use Rattle.answer.specs.declared.refusal.Refusal.the-variants.{NoneActive, TurnsUsedUp, KeepTooHigh}
 use Rattle.answer.specs.declared.turn.Answer.{Answer}
 use Rattle.answer.specs.declared.turn.Answer.the-variants.{Done, Turn as Turned}
 use Rattle.tariff.specs.Tariff.{link, in-tariff, price-of}
 use Rattle.model.specs.Limits.{places, longest, most-waiting, most-turns, quarters}
 use Rattle.model.specs.Session.{Frame, Session, vacant, fresh, with-virtual-time, with-good, with-active, with-queue}
-use Rattle.model.specs.Table.{Table, at, change, vacancies, booked-total, none-active, chosen}
+use Rattle.model.specs.Table.{at, change, vacancies, booked-total, none-active, chosen}
 use Rattle.model.specs.Lists.{Credit, Extra, offer}
 use Rattle.model.specs.Meaning.{Meaning}
-use Rattle.model.specs.Turn.{Way, by-right, by-allowance, by-credit, unclaimed, by-extra, idle, way-of, sender, length-of, answer-of, turned}
+use Rattle.model.specs.Turn.{Way, by-right, by-allowance, by-credit, unclaimed, by-extra, idle}
+use Rattle.model.specs.Turn.{way-of, sender, length-of, answer-of, turned}
 use Rattle.model.specs.Departures.{departures}
 use Rattle.model.specs.Cell.{Cell, settled}
 
@@ -36,6 +40,12 @@ abbrev pub first-of : List (Bool × Refusal) → Option Refusal
 first-of [] = None
 first-of (c ∷ cs) = cond (c .0) (Some (c .1)) (first-of cs)
 
+-- what refuses every call on a place that is not open, before anything else is looked at
+abbrev pub on-open-place : {C : Type 0} → Cell C → ℕ → List (Bool × Refusal) → List (Bool × Refusal)
+on-open-place x place more =
+    (leb places place, PlaceTooHigh) ∷
+    (not (at (x .table) place .booked), PlaceNotOpen) ∷ more
+
 -- what can refuse a call, in the order of the refusals' numbers
 abbrev pub refusals : {C : Type 0} → Cell C → Call → List (Bool × Refusal)
 refusals x (opening place rate) =
@@ -44,24 +54,28 @@ refusals x (opening place rate) =
     (not (in-tariff rate), RateNotInTariff) ∷
     (ltb link (booked-total (x .table) + rate), LinkOverbooked) ∷ []
 refusals x (closing place) =
-    (leb places place, PlaceTooHigh) ∷
-    (not (at (x .table) place .booked), PlaceNotOpen) ∷
+    on-open-place x place (
     (at (x .table) place .active, SessionActive) ∷
-    (ltb (x .mark) (at (x .table) place .virtual-time), AheadOfMark) ∷ []
+    (ltb (x .mark) (at (x .table) place .virtual-time), AheadOfMark) ∷ [])
 refusals x (arrival place tag bytes) =
-    (leb places place, PlaceTooHigh) ∷
-    (not (at (x .table) place .booked), PlaceNotOpen) ∷
+    on-open-place x place (
     (eqb bytes 0 || ltb longest bytes, LengthOutOfRange) ∷
-    (leb most-waiting (length (at (x .table) place .queue)), QueueFull) ∷ []
-refusals x (report place good) =
-    (leb places place, PlaceTooHigh) ∷
-    (not (at (x .table) place .booked), PlaceNotOpen) ∷ []
+    (leb most-waiting (length (at (x .table) place .queue)), QueueFull) ∷ [])
+refusals x (report place good) = on-open-place x place []
 refusals x turn =
     (none-active (x .table), NoneActive) ∷
     (leb most-turns (x .turns), TurnsUsedUp) ∷ []
 
 abbrev pub refusal : {C : Type 0} → Cell C → Call → Option Refusal
 refusal x call = first-of (refusals x call)
+
+-- a question about a place: what is known of it
+abbrev pub known : Option Refusal → Session → Result Session Refusal
+known None s = Ok s
+known (Some why) s = Err why
+
+abbrev pub asked : {C : Type 0} → Cell C → ℕ → Result Session Refusal
+asked x place = known (first-of (on-open-place x place [])) (at (x .table) place)
 
 -- ---- what an accepted call leaves and answers
 

@@ -1,4 +1,5 @@
--- The cell as a value, and what every accepted call does last: the mark follows the table, and the chooser hears who joined a list.
+-- The cell as a value, and what every accepted call does last: the mark follows the table, and the chooser hears who joined
+-- a list.
 use Prim.Native.Nat.{ℕ, suc}
 use mathlib.Core.Bool.{Bool, true, false, cond, not, _&&_}
 use mathlib.Core.List.{List, [], _∷_}
@@ -22,8 +23,8 @@ mark-from (Some v) had-none latest mark = v
 mark-from None true latest mark = mark
 mark-from None false latest mark = latest
 
--- After a call that found table t and leaves table u: the smallest virtual time of the active sessions. When the call leaves none
--- active, having had some, the largest virtual time of any open session; otherwise the mark stays.
+-- After a call that found table t and leaves table u: the smallest virtual time of the active sessions. When the call leaves
+-- none active, having had some, the largest virtual time of any open session; otherwise the mark stays.
 unfoldable pub mark-after : ℕ → Table → Table → ℕ
 mark-after mark t u = mark-from (least u) (none-active t) (greatest u) mark
 
@@ -47,5 +48,9 @@ module _ {C : Type 0} (M : Meaning C) where
   -- a cell that is left with table u and n accepted turns, its chooser being c before it hears of joins
   unfoldable pub settled : Cell C → Table → ℕ → C → Cell C
   settled x u n c = record {
-    keep = x .keep; mark = mark-after (x .mark) (x .table) u; turns = n; table = u; chooser = all-joins (x .table) u c;
+    keep = x .keep;
+    mark = mark-after (x .mark) (x .table) u;
+    turns = n;
+    table = u;
+    chooser = all-joins (x .table) u c;
   }

@@ -1,9 +1,9 @@
--- Departures. An active session that has no frame and does not lead departs, the lowest place first. What it was still owed goes
--- to the sessions that are left active, by their rates: those up to a place have together the floor of their part, so that no byte
--- is lost. Whose lead such a share ends departs too, if it has no frame.
+-- Departures. An active session that has no frame and does not lead departs, the lowest place first. What it was still owed
+-- goes to the sessions that are left active, by their rates: those up to a place have together the floor of their part, so
+-- that no byte is lost. Whose lead such a share ends departs too, if it has no frame.
 use Prim.Native.Nat.{ℕ, zero, suc, _+_, _-_, _*_, _/_}
 use mathlib.Core.Bool.{Bool, false, cond, not, _&&_}
-use mathlib.Core.List.{List, [], _∷_}
+use mathlib.Core.List.{[], _∷_}
 use lib.IntN.{pos}
 use Rattle.std.specs.declared.option.Option.{Option}
 use Rattle.std.specs.declared.option.Option.the-variants.{None, Some}

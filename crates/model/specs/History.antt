@@ -12,7 +12,6 @@ use Rattle.answer.specs.declared.refusal.Refusal.{Refusal}
 use Rattle.answer.specs.declared.turn.Answer.{Answer}
 use Rattle.answer.specs.declared.turn.Answer.the-variants.{Done, Turn as Turned}
 use Rattle.answer.specs.declared.turn.Sent.{Sent}
-use Rattle.answer.specs.declared.turn.Turn.{Turn}
 use Rattle.model.specs.Session.{Frame, able}
 use Rattle.model.specs.Table.{at}
 use Rattle.model.specs.Meaning.{Meaning}
@@ -90,7 +89,8 @@ module _ {C : Type 0} (M : Meaning C) where
   Always P x [] = P x
   Always P x (k ∷ ks) = P x × Always P (step M x k .cell) ks
 
-  -- something holds in every history of a new cell, whatever its keep and in whatever state its chooser: at first, and after any calls
+  -- something holds in every history of a new cell, whatever its keep and in whatever state its chooser: at first, and after
+  -- any calls
   abbrev pub Throughout : (Cell C → Type 0) → Type 0
   Throughout P = (keep : ℕ) (c : C) (calls : List Call) → P (after (new keep c) calls)
 

@@ -4,8 +4,9 @@ use mathlib.Core.Path.{_≡_}
 use mathlib.Core.Bool.{false}
 use lib.IntN.{pos, _+ℤ_}
 use lib.ListN.{take}
-use Rattle.model.specs.Table.{Table, at, total, totalℤ}
-use Rattle.model.specs.Departures.{departing, active-rate, share, departures}
+use Rattle.std.specs.declared.option.Option.the-variants.{Some}
+use Rattle.model.specs.Table.{Table, at, change, total, totalℤ, first}
+use Rattle.model.specs.Departures.{departing, gone, active-rate, share, departed, departures}
 
 -- A lag that is shared while somebody is active is handed out whole: no byte is lost, and none is made.
 abbrev pub Hands-out-all : Type 0
@@ -17,7 +18,14 @@ Hands-out-all =
 abbrev pub Floors : Type 0
 Floors =
     (lag r n : ℕ) (t : Table) →
-    totalℤ (λ s. s .lag) (take n (share lag r 0 t)) ≡ totalℤ (λ s. s .lag) (take n t) +ℤ pos (lag * total active-rate (take n t) / r)
+    totalℤ (λ s. s .lag) (take n (share lag r 0 t))
+    ≡ totalℤ (λ s. s .lag) (take n t) +ℤ pos (lag * total active-rate (take n t) / r)
+
+-- So a departure leaves the lags adding up to what they did, if somebody is left active.
+abbrev pub Keeps-the-sum : Type 0
+Keeps-the-sum =
+    (t : Table) (k : ℕ) → first departing t ≡ Some k → 0 < total active-rate (change t k gone) →
+    totalℤ (λ s. s .lag) (departed t (Some k)) ≡ totalℤ (λ s. s .lag) t
 
 -- Who is not active receives nothing.
 abbrev pub Spares-the-inactive : Type 0
@@ -30,5 +38,6 @@ Leaves-none-departing = (t : Table) (j : ℕ) → departing (at (departures t) j
 pub record Departs-justly : Type 0 where
   pub whole : Hands-out-all
   pub floors : Floors
+  pub sum : Keeps-the-sum
   pub spares : Spares-the-inactive
   pub ends : Leaves-none-departing

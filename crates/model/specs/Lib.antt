@@ -11,3 +11,4 @@ pub mod Laws
 pub mod Sound
 pub mod History
 pub mod Promises
+pub mod Figures

@@ -1,5 +1,5 @@
--- The two lists from which a chooser picks, and what it is offered. A session that is able and lags stands in the credit list;
--- one that is able and is owed nothing stands in the extra list.
+-- The two lists from which a chooser picks, and what it is offered. A session that is able and lags stands in the credit
+-- list; one that is able and is owed nothing stands in the extra list.
 use mathlib.Core.Bool.{Bool, true, false, not, _&&_}
 use mathlib.Core.List.{List, [], _∷_, map}
 use Rattle.chooser.specs.Offers.{idle, offered}

@@ -25,7 +25,8 @@ abbrev pub if-sound : {X : Type 0} → X → (Offer → X) → (es : List Entry)
 if-sound x f es true e = f (record { entries = es; ok = e })
 if-sound x f es false e = x
 
-abbrev pub meaning : {C : Type 0} → (C → Line → Offer → Option ℕ) → (C → Line → ℕ → ℕ → ℕ → C) → (C → Line → ℕ → Offer → C) → (C → ℕ → C) → Meaning C
+abbrev pub meaning : {C : Type 0} → (C → Line → Offer → Option ℕ) → (C → Line → ℕ → ℕ → ℕ → C) →
+    (C → Line → ℕ → Offer → C) → (C → ℕ → C) → Meaning C
 meaning pick served joined cleared = record {
   pick = λ c l es. if-sound None (pick c l) es (sound es) refl;
   served = served;

@@ -20,13 +20,15 @@ pub record Session : Type 0 where
 
 abbrev pub vacant : Session
 vacant = record {
-  booked = false; rate = 0; price = 0; virtual-time = 0; lag = pos 0; allowance = pos 0; good = false; active = false; queue = [];
+  booked = false; rate = 0; price = 0; virtual-time = 0; lag = pos 0;
+  allowance = pos 0; good = false; active = false; queue = [];
 }
 
 -- as a place is opened
 abbrev pub fresh : ℕ → ℕ → Session
 fresh rate price = record {
-  booked = true; rate = rate; price = price; virtual-time = 0; lag = pos 0; allowance = pos 0; good = true; active = false; queue = [];
+  booked = true; rate = rate; price = price; virtual-time = 0; lag = pos 0;
+  allowance = pos 0; good = true; active = false; queue = [];
 }
 
 -- ---- what a session is

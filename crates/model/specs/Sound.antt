@@ -1,7 +1,8 @@
--- The books of a cell are in order: what holds before the first call and after each. From it follows how large every number can get.
+-- The books of a cell are in order: what holds before the first call and after each. From it follows how large every number
+-- can get.
 use Prim.Native.Nat.{ℕ, _+_, _*_, _≤_, _<_}
 use mathlib.Core.Path.{_≡_}
-use mathlib.Core.Bool.{Bool, true, false, _||_}
+use mathlib.Core.Bool.{true, false, _||_}
 use lib.IntN.{pos, natAbs}
 use lib.ListN.{length}
 use Rattle.std.specs.declared.option.Option.the-variants.{Some}
@@ -27,7 +28,7 @@ pub record Orderly (mark turns : ℕ) (s : Session) : Type 0 where
   pub frames : All Fits (s .queue)
   pub room : length (s .queue) ≤ most-waiting
 
--- all places together; what the lagging sessions are owed is bounded by their sum, since a departing lag can go whole to one of them
+-- all places together; it is the sum of the lags above zero that is bounded, since a departing lag can go whole to one session
 pub record Books (keep mark turns : ℕ) (t : Table) : Type 0 where
   pub size : length t ≡ places
   pub rows : (j : ℕ) → Orderly mark turns (at t j)
@@ -38,6 +39,15 @@ pub record Books (keep mark turns : ℕ) (t : Table) : Type 0 where
   pub early : mark ≤ dearest * turns
   pub few : turns ≤ most-turns
   pub modest : keep ≤ quarters
+
+-- a table in the midst of a turn, all lagging sessions together being owed at most so much
+pub record Midway (most : ℕ) (t : Table) : Type 0 where
+  pub size : length t ≡ places
+  pub rates : booked-total t ≤ link
+  pub balance : totalℤ (λ s. s .lag) t ≡ pos 0
+  pub owing : total (λ s. above-zero (s .lag)) t ≤ most
+  pub quiet : (j : ℕ) → at t j .active ≡ false → at t j .lag ≡ pos 0
+  pub counted : (j : ℕ) → at t j .active ≡ true → 0 < at t j .rate
 
 abbrev pub Sound : {C : Type 0} → Cell C → Type 0
 Sound x = Books (x .keep) (x .mark) (x .turns) (x .table)

@@ -1,6 +1,6 @@
 -- A turn up to the departures: who sends and why, what it costs, and who owes whom after it.
-use Prim.Native.Nat.{ℕ, zero, suc, _+_, _*_}
-use mathlib.Core.Bool.{Bool, true, false, cond, not, _&&_}
+use Prim.Native.Nat.{ℕ, _+_, _*_}
+use mathlib.Core.Bool.{Bool, cond, not, _&&_}
 use mathlib.Core.List.{List, [], _∷_}
 use lib.IntN.{ℤ, pos, _+ℤ_, _-ℤ_}
 use lib.Signed.{ltZ, leZ}
@@ -16,21 +16,22 @@ use Rattle.model.specs.Table.{Table, at, change}
 
 -- ---- who sends
 
--- how the chosen session's turn goes; where it is handed on, to which place
+-- how the chosen session's turn goes
 pub data Way : Type 0 where
-  by-right : Way
-  by-allowance : Way
-  by-credit : ℕ → Way
-  unclaimed : Way  -- it leads beyond its allowance, but nobody is owed
-  by-extra : ℕ → Way
-  idle : Way
+  by-right : Way  -- able and not leading, it sends
+  by-allowance : Way  -- able and leading, it sends within its allowance
+  by-credit : ℕ → Way  -- a lagging session is paid back: that place sends
+  unclaimed : Way  -- able and leading beyond its allowance, it sends, since nobody is owed
+  by-extra : ℕ → Way  -- it cannot send; that place, which is owed nothing, uses the turn
+  idle : Way  -- nobody can send
 
 -- the way over the place picked, or another if none is
 abbrev pub picked : Option ℕ → (ℕ → Way) → Way → Way
 picked None f w = w
 picked (Some q) f w = f q
 
--- of the chosen: whether it is able, whether it leads, whether its allowance is at least 0; and the picks from the credit and the extra list
+-- of the chosen session: whether it is able, whether it leads, whether its allowance is at least 0; and the picks from the
+-- credit list and from the extra list
 abbrev pub way : Bool → Bool → Bool → Option ℕ → Option ℕ → Way
 way able leads allowed owed spare =
     cond (able && not leads) by-right
@@ -89,10 +90,13 @@ popped s = with-queue (rest (s .queue)) s
 
 -- what an allowance becomes by a charge, of which it spends so many quarters; it moves only while the session leads
 abbrev pub allowed : ℕ → ℕ → ℕ → Session → ℤ
-allowed keep spent charge s = cond (leads s) (s .allowance +ℤ pos (keep * charge) -ℤ pos (spent * charge)) (s .allowance)
+allowed keep spent charge s =
+    cond (leads s) (s .allowance +ℤ pos (keep * charge) -ℤ pos (spent * charge)) (s .allowance)
 
 abbrev pub charged : ℕ → ℕ → ℕ → Session → Session
-charged keep spent n s = with-virtual-time (s .virtual-time + n * s .price) (with-allowance (allowed keep spent (n * s .price) s) s)
+charged keep spent n s =
+    with-virtual-time (s .virtual-time + n * s .price)
+    (with-allowance (allowed keep spent (n * s .price) s) s)
 
 -- it is owed n bytes more
 abbrev pub owed : ℕ → Session → Session

@@ -1,8 +1,11 @@
 // The cell as a definition, and one function for each thing that it promises, so that the check asks for its proof.
+ghost use Rattle.model.specs.Figures.{Figures-stand};
 ghost use Rattle.model.specs.Laws.{Departs-justly};
 ghost use Rattle.model.specs.Meaning.{meaning};
-ghost use Rattle.model.specs.Promises.{Gets-its-share, Idles-only-if-none-able, Chooses-the-least-advanced, Sends-what-it-says, Counts-every-byte, Always-balanced, Active-exactly-when, Refuses-without-trace, Mark-never-falls, Closing-sheds-nothing, Stays-within, Keeps-its-books, Promises};
-
+ghost use Rattle.model.specs.Promises.{Promises, Gets-its-share, Idles-only-if-none-able, Chooses-the-least-advanced};
+ghost use Rattle.model.specs.Promises.{Sends-what-it-says, Counts-every-byte, Always-balanced, Active-exactly-when};
+ghost use Rattle.model.specs.Promises.{Refuses-without-trace, Refuses-in-order, Mark-never-falls, Closing-sheds-nothing};
+ghost use Rattle.model.specs.Promises.{Stays-within, Keeps-its-books};
 use chooser::Chooser;
 
 // Every promise below, of a cell with any chooser.
@@ -68,6 +71,13 @@ pub fn refuses_without_trace<C: Chooser>() -> u8
     keeps_its_promises::<C>()
 }
 
+// Refusals are looked for in the order of their numbers.
+pub fn refuses_in_order<C: Chooser>() -> u8
+    ensures { λ _. ⌜ Refuses-in-order {C = C} (meaning pick afterServed afterJoined afterCleared) ⌝ }
+{
+    keeps_its_promises::<C>()
+}
+
 // The mark never falls.
 pub fn mark_never_falls<C: Chooser>() -> u8
     ensures { λ _. ⌜ Mark-never-falls {C = C} (meaning pick afterServed afterJoined afterCleared) ⌝ }
@@ -99,6 +109,13 @@ pub fn keeps_its_books<C: Chooser>() -> u8
 // A departing lag is handed out whole, by floors, to the active alone, until nobody is left to depart.
 pub fn departs_justly() -> u8
     ensures { λ _. ⌜ Departs-justly ⌝ }
+{
+    0
+}
+
+// The worked figures, of a new cell with any keep and chooser.
+pub fn reproduces_the_figures<C: Chooser>() -> u8
+    ensures { λ _. ⌜ Figures-stand {C = C} (meaning pick afterServed afterJoined afterCleared) ⌝ }
 {
     0
 }
