@@ -1,18 +1,10 @@
 -- What a call would make of its place, or the first of its refusals whose condition holds.
-use mathlib.Core.Bool.{cond, not}
-use Prim.Native.Nat.{ℕ}
-use lib.Dec.{leb}
-use Rattle.std.specs.declared.option.Option.{Option}
-use Rattle.std.specs.declared.option.Option.the-variants.{Some, None}
 use Rattle.std.specs.declared.result.Result.{Result}
 use Rattle.std.specs.declared.result.Result.the-variants.{Ok, Err}
 use Rattle.answer.specs.declared.refusal.Refusal.{Refusal}
-use Rattle.answer.specs.declared.refusal.Refusal.the-variants.{PlaceTooHigh, PlaceNotOpen}
-use Rattle.model.specs.Calls.{Call, refusal}
+use Rattle.model.specs.Calls.{Call, refusal, known}
 use Rattle.model.specs.Cell.{Cell}
-use Rattle.model.specs.Limits.{places}
 use Rattle.model.specs.Session.{Session}
-use Rattle.model.specs.Table.{at}
 use Rattle.session.specs.Seen.{seen}
 use Rattle.session.specs.declared.row.Row.{Row}
 
@@ -21,17 +13,5 @@ abbrev pub sessions : Result Row Refusal → Result Session Refusal
 sessions (Ok r) = Ok (seen r)
 sessions (Err why) = Err why
 
--- the session at an open place
-abbrev pub opened : {C : Type 0} → Cell C → ℕ → Result Session Refusal
-opened x place =
-    cond (leb places place) (Err PlaceTooHigh)
-    (cond (not (at (x .table) place .booked)) (Err PlaceNotOpen)
-    (Ok (at (x .table) place)))
-
--- a session, unless something refuses it
-abbrev pub unless : Option Refusal → Session → Result Session Refusal
-unless None s = Ok s
-unless (Some why) s = Err why
-
 abbrev pub plan : {C : Type 0} → Cell C → Call → Session → Result Session Refusal
-plan x call s = unless (refusal x call) s
+plan x call s = known (refusal x call) s
