@@ -14,7 +14,7 @@ use Rattle.answer.specs.declared.refusal.Refusal.{Refusal}
 use Rattle.answer.specs.declared.turn.Answer.the-variants.{Done}
 use Rattle.model.proofs.Books.{step-sound}
 use Rattle.model.proofs.Tables.{at-is, change-is}
-use Rattle.model.specs.Calls.{Call, opening, closing, arrival, report, refusal, arrived, Outcome, changed, accepted, outcome, step, known}
+use Rattle.model.specs.Calls.{Call, opening, closing, arrival, report, refusal, arrived, Outcome, changed, accepted, outcome, step}
 use Rattle.model.specs.Cell.{Cell, mark-after, all-joins, settled}
 use Rattle.model.specs.Meaning.{Meaning, Lawful}
 use Rattle.model.specs.Session.{Frame, Session, vacant, fresh, with-good}
@@ -22,16 +22,16 @@ use Rattle.model.specs.Sound.{Sound, In-order}
 use Rattle.model.specs.Table.{Table, at, change}
 use Rattle.tariff.specs.Tariff.{price-of}
 use Rattle.cell.specs.Found.{Offerable}
-use Rattle.cell.specs.Plans.{plan}
+use Rattle.cell.specs.Plans.{unless, plan}
 use Rattle.cell.proofs.Offering.{offerable}
 
 -- ---- a plan, taken apart
 
-planned : (o : Option Refusal) (s t : Session) → Ok t ≡ known o s → (o ≡ None) × (t ≡ s)
+pub planned : {X : Type 0} (o : Option Refusal) (s t : X) → Ok t ≡ unless o s → (o ≡ None) × (t ≡ s)
 planned None s t e = (refl, cc)
 planned (Some why) s t e = let z : _≡_ {A = ℕ} 0 1 = cc in absurd (omega arith)
 
-not-planned : (o : Option Refusal) (s : Session) (why : Refusal) → Err why ≡ known o s → o ≡ Some why
+pub not-planned : {X : Type 0} (o : Option Refusal) (s : X) (why : Refusal) → Err why ≡ unless o s → o ≡ Some why
 not-planned None s why e = let z : _≡_ {A = ℕ} 0 1 = cc in absurd (omega arith)
 not-planned (Some reason) s why e = let same : reason ≡ why = cc in ap Some same
 
@@ -54,7 +54,7 @@ module _ {C : Type 0} (M : Meaning C) (x : Cell C) where
   unfolding step
   accepts call e = ap (outcome M x call) e
 
-  refuses : (call : Call) (why : Refusal) → refusal x call ≡ Some why → step M x call ≡ record { cell = x; answer = Err why }
+  pub refuses : (call : Call) (why : Refusal) → refusal x call ≡ Some why → step M x call ≡ record { cell = x; answer = Err why }
   unfolding step
   refuses call why e = ap (outcome M x call) e
 
