@@ -23,10 +23,19 @@ impl<C: Chooser> Cell<C> {
         ensures back { λ r. ⌜ refused r (λ u. u .chooser ≡ chooser) ⌝ }
     {
         if keep > QUARTERS {
-            return Err(Unmade { why: Refusal::KeepTooHigh, chooser });
+            return Err(Unmade {
+                why: Refusal::KeepTooHigh,
+                chooser,
+            });
         }
         let vacant = Row::vacant();
-        Ok(Cell { rows: [vacant; 64], mark: 0, turns: 0, keep, chooser })
+        Ok(Cell {
+            rows: [vacant; 64],
+            mark: 0,
+            turns: 0,
+            keep,
+            chooser,
+        })
     }
 
     // Opens a place at a rate of the tariff.
@@ -36,7 +45,13 @@ impl<C: Chooser> Cell<C> {
     {
         let row = self.opening(place, rate)?;
         self.chooser.cleared(usize::from(place));
-        put(&mut self.rows, &mut self.mark, &mut self.chooser, place, row);
+        put(
+            &mut self.rows,
+            &mut self.mark,
+            &mut self.chooser,
+            place,
+            row,
+        );
         Ok(())
     }
 
@@ -46,7 +61,13 @@ impl<C: Chooser> Cell<C> {
         ensures after { λ _. ⌜ view (now (self .exit)) ≡ step (meaning pick afterServed afterJoined afterCleared) (view (now (self .entry))) (closing place) .cell ⌝ }
     {
         let row = self.closing(place)?;
-        put(&mut self.rows, &mut self.mark, &mut self.chooser, place, row);
+        put(
+            &mut self.rows,
+            &mut self.mark,
+            &mut self.chooser,
+            place,
+            row,
+        );
         Ok(())
     }
 
@@ -56,7 +77,13 @@ impl<C: Chooser> Cell<C> {
         ensures after { λ _. ⌜ view (now (self .exit)) ≡ step (meaning pick afterServed afterJoined afterCleared) (view (now (self .entry))) (arrival place (frame .tag) (frame .length)) .cell ⌝ }
     {
         let row = self.arrival(place, frame)?;
-        put(&mut self.rows, &mut self.mark, &mut self.chooser, place, row);
+        put(
+            &mut self.rows,
+            &mut self.mark,
+            &mut self.chooser,
+            place,
+            row,
+        );
         Ok(())
     }
 
@@ -66,7 +93,13 @@ impl<C: Chooser> Cell<C> {
         ensures after { λ _. ⌜ view (now (self .exit)) ≡ step (meaning pick afterServed afterJoined afterCleared) (view (now (self .entry))) (report place good) .cell ⌝ }
     {
         let row = self.reported(place, good)?;
-        put(&mut self.rows, &mut self.mark, &mut self.chooser, place, row);
+        put(
+            &mut self.rows,
+            &mut self.mark,
+            &mut self.chooser,
+            place,
+            row,
+        );
         Ok(())
     }
 }

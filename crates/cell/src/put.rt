@@ -12,7 +12,13 @@ use super::settle::settle;
 use chooser::Chooser;
 use session::Row;
 
-pub(crate) fn put<C: Chooser>(rows: &mut [Row; 64], mark: &mut u64, chooser: &mut C, place: u8, row: Row)
+pub(crate) fn put<C: Chooser>(
+    rows: &mut [Row; 64],
+    mark: &mut u64,
+    chooser: &mut C,
+    place: u8,
+    row: Row,
+)
     requires inside { ⌜ place < 64 ⌝ }
     requires fair { ⌜ Offerable (change (table-of (now rows)) place (λ _. seen row)) ⌝ }
     ensures after { λ _. ⌜ table-of (now (rows .exit)) ≡ change (table-of (now (rows .entry))) place (λ _. seen row) ⌝ }

@@ -67,7 +67,9 @@ impl Place {
                 return false;
             }
         }
-        (self.session == other.session) & (self.credit == other.credit) & (self.extra == other.extra)
+        (self.session == other.session)
+            & (self.credit == other.credit)
+            & (self.extra == other.extra)
     }
 }
 
@@ -78,6 +80,9 @@ impl Picture {
                 return false;
             }
         }
-        (self.mark == other.mark) & (self.booked == other.booked) & (self.turns == other.turns) & (self.keep == other.keep)
+        (self.mark == other.mark)
+            & (self.booked == other.booked)
+            & (self.turns == other.turns)
+            & (self.keep == other.keep)
     }
 }

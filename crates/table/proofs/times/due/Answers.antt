@@ -19,10 +19,11 @@ use Rattle.table.proofs.times.due.Needs as need
 
 pub loop-place-again : need.loop-place-again
 loop-place-again c =
-    let rows = c .args .rows .now in
-    (simp length-set (c .loop-place .inv .0),
-     built-more (c .loop-place .keys) (map time-key (table-of rows)) (c .loop-place .place) _ None (omega arith) (omega (arith, length-made time-key rows))
-       (c .loop-place .inv .1) (c .key .ensures ∙ sym (getD-made time-key rows (c .loop-place .place) _ None (omega arith))))
+    let rows = c .args .rows .now in (
+      simp length-set (c .loop-place .inv .0),
+      built-more (c .loop-place .keys) (map time-key (table-of rows)) (c .loop-place .place) _ None (omega arith) (omega (arith, length-made time-key rows))
+          (c .loop-place .inv .1) (c .key .ensures ∙ sym (getD-made time-key rows (c .loop-place .place) _ None (omega arith))),
+    )
 
 pub returns : need.returns
 returns c =
@@ -32,6 +33,7 @@ returns c =
     let size = length-table rows ∙ c .told-rows in
     let inside = subst (λ n. found (c .least .result) (λ i. i < n)) size (chosen-inside (table-of rows) (c .least .result) is) in
     record {
-      is = is; inside = inside;
+      is = is;
+      inside = inside;
       soonest = λ d. times-read rows d (c .least .result) (c .told-rows) inside ∙ sym (least-is (table-of rows) ∙ ap (mapped (λ (i : ℕ). at (table-of rows) i .virtual-time)) (sym is));
     }
