@@ -5,7 +5,6 @@ ghost use Rattle.model.specs.Calls.{opening, closing, arrival, report, step, ma
 ghost use Rattle.model.specs.Meaning.{meaning};
 ghost use Rattle.cell.specs.Answers.{made-as, answered};
 ghost use Rattle.cell.specs.View.{view};
-use super::put::put;
 use super::state::Cell;
 use super::unmade::Unmade;
 use answer::Refusal;
@@ -45,13 +44,7 @@ impl<C: Chooser> Cell<C> {
     {
         let row = self.opening(place, rate)?;
         self.chooser.cleared(usize::from(place));
-        put(
-            &mut self.rows,
-            &mut self.mark,
-            &mut self.chooser,
-            place,
-            row,
-        );
+        self.put(place, row);
         Ok(())
     }
 
@@ -61,13 +54,7 @@ impl<C: Chooser> Cell<C> {
         ensures after { λ _. ⌜ view (now (self .exit)) ≡ step (meaning pick afterServed afterJoined afterCleared) (view (now (self .entry))) (closing place) .cell ⌝ }
     {
         let row = self.closing(place)?;
-        put(
-            &mut self.rows,
-            &mut self.mark,
-            &mut self.chooser,
-            place,
-            row,
-        );
+        self.put(place, row);
         Ok(())
     }
 
@@ -77,13 +64,7 @@ impl<C: Chooser> Cell<C> {
         ensures after { λ _. ⌜ view (now (self .exit)) ≡ step (meaning pick afterServed afterJoined afterCleared) (view (now (self .entry))) (arrival place (frame .tag) (frame .length)) .cell ⌝ }
     {
         let row = self.arrival(place, frame)?;
-        put(
-            &mut self.rows,
-            &mut self.mark,
-            &mut self.chooser,
-            place,
-            row,
-        );
+        self.put(place, row);
         Ok(())
     }
 
@@ -93,13 +74,7 @@ impl<C: Chooser> Cell<C> {
         ensures after { λ _. ⌜ view (now (self .exit)) ≡ step (meaning pick afterServed afterJoined afterCleared) (view (now (self .entry))) (report place good) .cell ⌝ }
     {
         let row = self.reported(place, good)?;
-        put(
-            &mut self.rows,
-            &mut self.mark,
-            &mut self.chooser,
-            place,
-            row,
-        );
+        self.put(place, row);
         Ok(())
     }
 }
