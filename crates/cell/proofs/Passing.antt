@@ -7,6 +7,7 @@ use native.Mathlib.Omega.{arith}
 use lib.Dec.{leb}
 use lib.ListN.{length}
 use Rattle.std.proofs.shelf.Tests.{cases-bool, lt-leb, leb-false}
+use Rattle.std.specs.Slices.{found as is-found}
 use Rattle.std.specs.declared.option.Option.{Option}
 use Rattle.std.specs.declared.option.Option.the-variants.{None, Some}
 use Rattle.answer.specs.declared.refusal.Refusal.the-variants.{NoneActive, TurnsUsedUp}
@@ -52,14 +53,19 @@ price-within s o = by (cases-bool (s .booked))
 
 -- ---- ways
 
+-- whatever holds of each who may be found holds of the one who is
+of-found : {P : ℕ → Type 0} (o : Option ℕ) → ((q : ℕ) → o ≡ Some q → P q) → is-found o P
+of-found None h = tt
+of-found (Some q) h = h q refl
+
 -- who is handed a turn sends in it
-handed-sends : (c : ℕ) (w : Way) (q : ℕ) → handed-to w ≡ Some q → sender c w ≡ Some q
-handed-sends c by-right q e = let z : _≡_ {A = ℕ} 0 1 = cc in absurd (omega arith)
-handed-sends c by-allowance q e = let z : _≡_ {A = ℕ} 0 1 = cc in absurd (omega arith)
-handed-sends c (by-credit k) q e = e
-handed-sends c unclaimed q e = let z : _≡_ {A = ℕ} 0 1 = cc in absurd (omega arith)
-handed-sends c (by-extra k) q e = e
-handed-sends c idle q e = let z : _≡_ {A = ℕ} 0 1 = cc in absurd (omega arith)
+handed-sends : (P : ℕ → Type 0) (c : ℕ) (w : Way) → is-found (sender c w) P → is-found (handed-to w) P
+handed-sends P c by-right h = tt
+handed-sends P c by-allowance h = tt
+handed-sends P c (by-credit q) h = h
+handed-sends P c unclaimed h = tt
+handed-sends P c (by-extra q) h = h
+handed-sends P c idle h = tt
 
 -- no turn changes a price
 pair-price : (keep n : ℕ) (t : Table) (c q j : ℕ) → at (change (change t c (hands-on keep n)) q (takes-up n)) j .price ≡ at t j .price
@@ -155,11 +161,11 @@ module _ {C : Type 0} (M : Meaning C) (law : Lawful M) (keep mark : ℕ) (t : Ta
 
   -- the way that the turn goes, and the table that it leaves before departures
   module _ (w : Way) (is : w ≡ decide M (only ch t) c) where
-    pub sender-inside : (q : ℕ) → sender c w ≡ Some q → q < 64
-    sender-inside q e = turn-sender M law cell (a .books) c (a .next) q (ap (sender c) (sym is) ∙ e)
+    pub sender-inside : is-found (sender c w) (λ q. q < 64)
+    sender-inside = of-found (sender c w) (λ q e. turn-sender M law cell (a .books) c (a .next) q (ap (sender c) (sym is) ∙ e))
 
-    pub handed-inside : (q : ℕ) → handed-to w ≡ Some q → q < 64
-    handed-inside q e = sender-inside q (handed-sends c w q e)
+    pub handed-inside : is-found (handed-to w) (λ q. q < 64)
+    handed-inside = handed-sends (λ q. q < 64) c w sender-inside
 
     pub short : length-of t (sender c w) ≤ longest
     short = subst (λ (w : Way). length-of t (sender c w) ≤ longest) (sym is) (turn-length M law cell (a .books) c (a .next))

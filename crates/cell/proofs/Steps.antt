@@ -1,6 +1,7 @@
--- An accepted call that changes one place: what the code leaves is what the definition says, and its books are in order.
+-- A call that changes one place: what it leaves by the definition is what the code puts there and settles.
 use mathlib.Core.Path.{_≡_, refl, sym, ap, subst, _∙_}
 use mathlib.Core.Bool.{Bool, true, false, cond}
+use mathlib.Core.List.{List}
 use Prim.Native.Nat.{ℕ, _<_}
 use native.Mathlib.Omega.{arith}
 use lib.Dec.{leb}
@@ -15,15 +16,21 @@ use Rattle.answer.specs.declared.turn.Answer.the-variants.{Done}
 use Rattle.model.proofs.Books.{step-sound}
 use Rattle.model.proofs.Tables.{at-is, change-is}
 use Rattle.model.specs.Calls.{Call, opening, closing, arrival, report, refusal, arrived, Outcome, changed, accepted, outcome, step}
-use Rattle.model.specs.Cell.{Cell, mark-after, all-joins, settled}
+use Rattle.model.specs.Cell.{Cell, mark-from, mark-after, joins, all-joins, settled}
+use Rattle.model.specs.Lists.{Credit, Extra}
 use Rattle.model.specs.Meaning.{Meaning, Lawful}
 use Rattle.model.specs.Session.{Frame, Session, vacant, fresh, with-good}
-use Rattle.model.specs.Sound.{Sound, In-order}
-use Rattle.model.specs.Table.{Table, at, change}
+use Rattle.model.specs.Sound.{Sound}
+use Rattle.model.specs.Table.{Table, at, change, least, greatest}
 use Rattle.tariff.specs.Tariff.{price-of}
-use Rattle.cell.specs.Found.{Offerable}
+use Rattle.session.specs.Seen.{seen}
+use Rattle.session.specs.declared.row.Row.{Row}
+use Rattle.table.specs.Places.{table-of}
+use Rattle.cell.specs.Found.{Offerable, before-of, with-chooser, with-session}
 use Rattle.cell.specs.Plans.{unless, plan}
+use Rattle.cell.specs.declared.before.Before.{Before}
 use Rattle.cell.proofs.Offering.{offerable}
+use Rattle.cell.proofs.Rows.{put-row}
 
 -- ---- a plan, taken apart
 
@@ -45,10 +52,34 @@ change-to : (t : Table) (k : ℕ) (f : Session → Session) (s : Session) → s 
 change-to t k f s e =
     change-is t k (λ _. s) ∙ ap (set t k) (e ∙ ap f (at-is t k)) ∙ sym (change-is t k f)
 
+-- a row that is put at a place, the mark and the joins that follow: the cell with that session
+module _ {C : Type 0} (M : Meaning C) (keep mark turns : ℕ) (rows : List Row) (c : C) (i place : ℕ) (row : Row) (b : Before) (m : ℕ) (d : C) where
+  abbrev old : Cell C
+  old = record { keep = keep; mark = mark; turns = turns; table = table-of rows; chooser = c }
+
+  abbrev now : Table
+  now = table-of (set rows i row)
+
+  pub put-is : i ≡ place → length rows ≡ 64 → place < 64 → b ≡ before-of (table-of rows) → m ≡ mark-from (least now) (b .idle) (greatest now) mark →
+      d ≡ joins M Extra (b .extra) now (joins M Credit (b .credit) now c) →
+      _≡_ {A = Cell C} (record { keep = keep; mark = m; turns = turns; table = now; chooser = d }) (with-session M old place (seen row))
+  unfolding settled mark-after all-joins
+  put-is same n l e p q =
+      let marked = p ∙ ap (λ (b : Before). mark-from (least now) (b .idle) (greatest now) mark) e in
+      let told = q ∙ ap (λ (b : Before). joins M Extra (b .extra) now (joins M Credit (b .credit) now c)) e in
+      (λ k. record { keep = keep; mark = marked k; turns = turns; table = now; chooser = told k })
+      ∙ ap (λ (u : Table). settled M old u turns c) (put-row rows i place row same n l)
+
 module _ {C : Type 0} (M : Meaning C) (x : Cell C) where
-  -- the call leaves session s at the place, the chooser being c before it hears of joins
+  pub settled-offers : (u : Table) → Sound (settled M x u (x .turns) (x .chooser)) → Offerable u
+  unfolding settled
+  settled-offers u b = offerable b
+
+  -- ---- what a call leaves
+
+  -- session s at a place, the chooser being c before it hears of joins
   abbrev pub Leaves : Call → ℕ → Session → C → Type 0
-  Leaves call place s c = (place < 64) × (step M x call ≡ changed M x place (λ _. s) c)
+  Leaves call place s c = (place < 64) × (step M x call ≡ record { cell = with-session M (with-chooser x c) place s; answer = Ok Done })
 
   accepts : (call : Call) → refusal x call ≡ None → step M x call ≡ accepted M x call
   unfolding step
@@ -61,7 +92,9 @@ module _ {C : Type 0} (M : Meaning C) (x : Cell C) where
   inside : (place : ℕ) (why : Refusal) (o : Option Refusal) → cond (leb 64 place) (Some why) o ≡ None → place < 64
   inside place why o e = leb-false 64 place (below (leb 64 place) why o e)
 
-  changed-to : (place : ℕ) (f : Session → Session) (s : Session) (c : C) → s ≡ f (at (x .table) place) → changed M x place f c ≡ changed M x place (λ _. s) c
+  changed-to : (place : ℕ) (f : Session → Session) (s : Session) (c : C) → s ≡ f (at (x .table) place) →
+      changed M x place f c ≡ record { cell = with-session M (with-chooser x c) place s; answer = Ok Done }
+  unfolding settled
   changed-to place f s c e = ap (λ (u : Table). record { cell = settled M x u (x .turns) c; answer = Ok Done }) (sym (change-to (x .table) place f s e))
 
   leaves : (call : Call) (place : ℕ) (f : Session → Session) (s : Session) (c : C) → accepted M x call ≡ changed M x place f c → (refusal x call ≡ None → place < 64) →
@@ -78,7 +111,8 @@ module _ {C : Type 0} (M : Meaning C) (x : Cell C) where
   unfolding accepted
   closing-leaves place s = leaves (closing place) place (λ _. vacant) s (x .chooser) refl (inside place _ _)
 
-  pub arrival-leaves : (place : ℕ) (f : Frame) (s : Session) → Ok s ≡ plan x (arrival place (f .tag) (f .length)) (arrived (x .mark) f (at (x .table) place)) → Leaves (arrival place (f .tag) (f .length)) place s (x .chooser)
+  pub arrival-leaves : (place : ℕ) (f : Frame) (s : Session) → Ok s ≡ plan x (arrival place (f .tag) (f .length)) (arrived (x .mark) f (at (x .table) place)) →
+      Leaves (arrival place (f .tag) (f .length)) place s (x .chooser)
   unfolding accepted
   arrival-leaves place f s = leaves (arrival place (f .tag) (f .length)) place (arrived (x .mark) f) s (x .chooser) refl (inside place _ _)
 
@@ -86,34 +120,10 @@ module _ {C : Type 0} (M : Meaning C) (x : Cell C) where
   unfolding accepted
   report-leaves place good s = leaves (report place good) place (with-good good) s (x .chooser) refl (inside place _ _)
 
+  -- its books are in order
+  pub leaves-order : Lawful M → Sound x → (call : Call) (place : ℕ) (s : Session) (c : C) → Leaves call place s c → Sound (with-session M (with-chooser x c) place s)
+  leaves-order law b call place s c l = subst (λ (o : Outcome M). Sound (o .cell)) (l .1) (step-sound M law x call b)
+
   -- a refused call leaves the cell as it was
   pub refused : (call : Call) (s : Session) (why : Refusal) → Err why ≡ plan x call s → step M x call ≡ record { cell = x; answer = Err why }
   refused call s why e = refuses call why (not-planned (refusal x call) s why e)
-
-  -- ---- what such a call leaves
-
-  module _ (call : Call) (place : ℕ) (s : Session) (c : C) (l : Leaves call place s c) where
-    pub answer-is : Ok Done ≡ step M x call .answer
-    answer-is = sym (ap (λ (o : Outcome M). o .answer) (l .1))
-
-    abbrev now : Table
-    now = change (x .table) place (λ _. s)
-
-    left : step M x call .cell ≡ settled M x now (x .turns) c
-    left = ap (λ (o : Outcome M). o .cell) (l .1)
-
-    pub cell-is : (u : Table) (m : ℕ) (d : C) → u ≡ now → m ≡ mark-after (x .mark) (x .table) u → d ≡ all-joins M (x .table) u c →
-        _≡_ {A = Cell C} (record { keep = x .keep; mark = m; turns = x .turns; table = u; chooser = d }) (step M x call .cell)
-    unfolding settled
-    cell-is u m d e p q =
-        (λ i. record { keep = x .keep; mark = p i; turns = x .turns; table = u; chooser = q i })
-        ∙ ap (λ (u : Table). settled M x u (x .turns) c) e ∙ sym left
-
-    module _ (law : Lawful M) (b : Sound x) where
-      pub can-offer : Offerable now
-      unfolding settled
-      can-offer = subst (λ (y : Cell C). Offerable (y .table)) left (offerable (step-sound M law x call b))
-
-      pub in-order : (u : Table) (m : ℕ) (d : C) → u ≡ now → m ≡ mark-after (x .mark) (x .table) u → d ≡ all-joins M (x .table) u c → In-order (x .keep) m (x .turns) u
-      in-order u m d e p q =
-          subst (λ (y : Cell C). In-order (y .keep) (y .mark) (y .turns) (y .table)) (sym (cell-is u m d e p q)) ∣ step-sound M law x call b ∣₁

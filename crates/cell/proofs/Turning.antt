@@ -1,9 +1,10 @@
 -- One change of a table after another, and the room that there is for it.
-use Prim.Native.Nat.{ℕ, zero, suc, _+_, _≤_}
+use Prim.Native.Nat.{ℕ, zero, suc, _+_, _<_, _≤_}
 use mathlib.Core.Path.{_≡_, refl, ap, _∙_}
 use mathlib.Core.List.{List, [], _∷_}
 use native.Mathlib.Omega.{arith}
 use lib.IntN.{ℤ, pos, negsuc, _+ℤ_, natAbs}
+use lib.ListN.{length, getD, set}
 use borrow.Author.Differences.{ints}
 use Rattle.chooser.specs.Offers.{lag-bound}
 use Rattle.model.specs.Limits.{longest}
@@ -11,6 +12,10 @@ use Rattle.model.specs.Session.{Session, below-zero}
 use Rattle.model.specs.Table.{Table, at, change}
 use Rattle.model.specs.Turn.{popped, repaid, hands-on, takes-up}
 use Rattle.model.proofs.Tables.{each-change}
+use Rattle.session.specs.Seen.{seen}
+use Rattle.session.specs.declared.row.Row.{Row}
+use Rattle.table.specs.Places.{table-of}
+use Rattle.table.proofs.Tables.{written}
 use Rattle.cell.specs.Room.{Has-room}
 
 -- two changes of one place are one
@@ -34,6 +39,11 @@ pub handed : (keep n : ℕ) (t : Table) (c q : ℕ) → change (change (change t
 handed keep n t c q =
     ap (λ (u : Table). change u q (repaid n)) (change-swap t q c popped (hands-on keep n) (λ s. refl))
     ∙ change-twice (change t c (hands-on keep n)) q popped (repaid n)
+
+-- the row of the chosen session, written when the frame has left
+pub handed-written : (keep n : ℕ) (t : Table) (c q : ℕ) (rows : List Row) (d r : Row) → c < length rows → table-of rows ≡ change t q popped →
+    seen r ≡ hands-on keep n (seen (getD rows c d)) → table-of (set rows c r) ≡ change (change t q popped) c (hands-on keep n)
+handed-written keep n t c q rows d r l e made = written rows c d r (hands-on keep n) l made ∙ ap (λ (u : Table). change u c (hands-on keep n)) e
 
 -- ---- room for what a turn adds and takes
 

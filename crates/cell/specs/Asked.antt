@@ -12,8 +12,14 @@ use Rattle.cell.specs.declared.standing.Standing.{Standing}
 -- every number of a session, and how many frames wait
 abbrev pub standing : Session → Standing
 standing s = record {
-  rate = s .rate; price = s .price; «virtual_time» = s .virtual-time; lag = s .lag; allowance = s .allowance;
-  good = s .good; active = s .active; waiting = length (s .queue);
+  rate = s .rate;
+  price = s .price;
+  «virtual_time» = s .virtual-time;
+  lag = s .lag;
+  allowance = s .allowance;
+  good = s .good;
+  active = s .active;
+  waiting = length (s .queue);
 }
 
 abbrev pub standings : Result Session Refusal → Result Standing Refusal

@@ -1,8 +1,8 @@
 // Questions. They change nothing.
 ghost use mathlib.Core.Path.{_≡_};
 ghost use Prim.Native.Nat.{_≤_};
+ghost use Rattle.model.specs.Calls.{asked};
 ghost use Rattle.model.specs.Table.{booked-total};
-ghost use Rattle.cell.specs.Plans.{opened};
 ghost use Rattle.cell.specs.Asked.{standings, frames};
 ghost use Rattle.cell.specs.View.{view};
 use super::standing::Standing;
@@ -14,7 +14,7 @@ use table::booked_total;
 impl<C> Cell<C> {
     // How the session of an open place stands.
     pub fn session(&self, place: u8) -> Result<Standing, Refusal>
-        ensures { λ r. ⌜ r ≡ standings (opened (view (now (self .entry))) place) ⌝ }
+        ensures { λ r. ⌜ r ≡ standings (asked (view (now (self .entry))) place) ⌝ }
     {
         let row = self.opened(place)?;
         Ok(Standing {
@@ -31,7 +31,7 @@ impl<C> Cell<C> {
 
     // The i-th frame, from 0, that waits at an open place.
     pub fn frame(&self, place: u8, i: usize) -> Result<Option<Frame>, Refusal>
-        ensures { λ r. ⌜ r ≡ frames (opened (view (now (self .entry))) place) i ⌝ }
+        ensures { λ r. ⌜ r ≡ frames (asked (view (now (self .entry))) place) i ⌝ }
     {
         let row = self.opened(place)?;
         Ok(row.queue.get(i))

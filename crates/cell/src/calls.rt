@@ -5,7 +5,6 @@ ghost use Rattle.model.specs.Calls.{opening, closing, arrival, report, step, ma
 ghost use Rattle.model.specs.Meaning.{meaning};
 ghost use Rattle.cell.specs.Answers.{made-as, answered};
 ghost use Rattle.cell.specs.View.{view};
-use super::put::put;
 use super::state::Cell;
 use super::unmade::Unmade;
 use answer::Refusal;
@@ -23,10 +22,19 @@ impl<C: Chooser> Cell<C> {
         ensures back { λ r. ⌜ refused r (λ u. u .chooser ≡ chooser) ⌝ }
     {
         if keep > QUARTERS {
-            return Err(Unmade { why: Refusal::KeepTooHigh, chooser });
+            return Err(Unmade {
+                why: Refusal::KeepTooHigh,
+                chooser,
+            });
         }
         let vacant = Row::vacant();
-        Ok(Cell { rows: [vacant; 64], mark: 0, turns: 0, keep, chooser })
+        Ok(Cell {
+            rows: [vacant; 64],
+            mark: 0,
+            turns: 0,
+            keep,
+            chooser,
+        })
     }
 
     // Opens a place at a rate of the tariff.
@@ -36,7 +44,7 @@ impl<C: Chooser> Cell<C> {
     {
         let row = self.opening(place, rate)?;
         self.chooser.cleared(usize::from(place));
-        put(&mut self.rows, &mut self.mark, &mut self.chooser, place, row);
+        self.put(place, row);
         Ok(())
     }
 
@@ -46,7 +54,7 @@ impl<C: Chooser> Cell<C> {
         ensures after { λ _. ⌜ view (now (self .exit)) ≡ step (meaning pick afterServed afterJoined afterCleared) (view (now (self .entry))) (closing place) .cell ⌝ }
     {
         let row = self.closing(place)?;
-        put(&mut self.rows, &mut self.mark, &mut self.chooser, place, row);
+        self.put(place, row);
         Ok(())
     }
 
@@ -56,7 +64,7 @@ impl<C: Chooser> Cell<C> {
         ensures after { λ _. ⌜ view (now (self .exit)) ≡ step (meaning pick afterServed afterJoined afterCleared) (view (now (self .entry))) (arrival place (frame .tag) (frame .length)) .cell ⌝ }
     {
         let row = self.arrival(place, frame)?;
-        put(&mut self.rows, &mut self.mark, &mut self.chooser, place, row);
+        self.put(place, row);
         Ok(())
     }
 
@@ -66,7 +74,7 @@ impl<C: Chooser> Cell<C> {
         ensures after { λ _. ⌜ view (now (self .exit)) ≡ step (meaning pick afterServed afterJoined afterCleared) (view (now (self .entry))) (report place good) .cell ⌝ }
     {
         let row = self.reported(place, good)?;
-        put(&mut self.rows, &mut self.mark, &mut self.chooser, place, row);
+        self.put(place, row);
         Ok(())
     }
 }

@@ -1,12 +1,12 @@
 // What a call would make of its place, or why it is refused. Nothing changes here.
 ghost use mathlib.Core.Path.{_≡_};
 ghost use Prim.Native.Nat.{_<_};
-ghost use Rattle.model.specs.Calls.{opening, closing, arrival, report, arrived};
+ghost use Rattle.model.specs.Calls.{opening, closing, arrival, report, arrived, asked};
 ghost use Rattle.model.specs.Session.{vacant, fresh, with-good};
 ghost use Rattle.model.specs.Table.{at};
 ghost use Rattle.session.specs.Seen.{seen};
 ghost use Rattle.tariff.specs.Tariff.{price-of};
-ghost use Rattle.cell.specs.Plans.{sessions, opened, plan};
+ghost use Rattle.cell.specs.Plans.{sessions, plan};
 ghost use Rattle.cell.specs.View.{view};
 use super::state::Cell;
 use answer::Refusal;
@@ -31,7 +31,7 @@ impl<C> Cell<C> {
 
     // The row of an open place.
     pub(crate) fn opened(&self, place: u8) -> Result<Row, Refusal>
-        ensures { λ r. ⌜ sessions r ≡ opened (view (now (self .entry))) place ⌝ }
+        ensures { λ r. ⌜ sessions r ≡ asked (view (now (self .entry))) place ⌝ }
     {
         if place >= PLACES {
             return Err(Refusal::PlaceTooHigh);

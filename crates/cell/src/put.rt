@@ -1,25 +1,25 @@
 // One place is changed, and the cell settles.
 ghost use mathlib.Core.Path.{_≡_};
 ghost use Prim.Native.Nat.{_<_};
-ghost use Rattle.model.specs.Cell.{mark-after, all-joins};
 ghost use Rattle.model.specs.Meaning.{meaning};
-ghost use Rattle.model.specs.Table.{change};
+ghost use Rattle.model.specs.Sound.{Sound};
 ghost use Rattle.session.specs.Seen.{seen};
-ghost use Rattle.table.specs.Places.{table-of};
-ghost use Rattle.cell.specs.Found.{Offerable};
+ghost use Rattle.cell.specs.Found.{with-session};
+ghost use Rattle.cell.specs.View.{view};
 use super::before::look;
 use super::settle::settle;
+use super::state::Cell;
 use chooser::Chooser;
 use session::Row;
 
-pub(crate) fn put<C: Chooser>(rows: &mut [Row; 64], mark: &mut u64, chooser: &mut C, place: u8, row: Row)
-    requires inside { ⌜ place < 64 ⌝ }
-    requires fair { ⌜ Offerable (change (table-of (now rows)) place (λ _. seen row)) ⌝ }
-    ensures after { λ _. ⌜ table-of (now (rows .exit)) ≡ change (table-of (now (rows .entry))) place (λ _. seen row) ⌝ }
-    ensures marked { λ _. ⌜ now (mark .exit) ≡ mark-after (now (mark .entry)) (table-of (now (rows .entry))) (table-of (now (rows .exit))) ⌝ }
-    ensures told { λ _. ⌜ now (chooser .exit) ≡ all-joins (meaning pick afterServed afterJoined afterCleared) (table-of (now (rows .entry))) (table-of (now (rows .exit))) (now (chooser .entry)) ⌝ }
-{
-    let before = look(rows);
-    rows[usize::from(place)] = row;
-    *mark = settle(rows, &before, *mark, chooser);
+impl<C: Chooser> Cell<C> {
+    pub(crate) fn put(&mut self, place: u8, row: Row)
+        requires inside { ⌜ place < 64 ⌝ }
+        requires ordered { ⌜ Sound (with-session (meaning pick afterServed afterJoined afterCleared) (view (now self)) place (seen row)) ⌝ }
+        ensures { λ _. ⌜ view (now (self .exit)) ≡ with-session (meaning pick afterServed afterJoined afterCleared) (view (now (self .entry))) place (seen row) ⌝ }
+    {
+        let before = look(&self.rows);
+        self.rows[usize::from(place)] = row;
+        self.mark = settle(&self.rows, &before, self.mark, &mut self.chooser);
+    }
 }

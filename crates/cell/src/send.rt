@@ -1,10 +1,11 @@
 // The turn is carried out: a frame leaves its queue, the chosen session is charged, and who used whose turn is written down.
 ghost use mathlib.Core.Path.{_≡_};
 ghost use Prim.Native.Nat.{ℕ, _<_, _≤_};
+ghost use Rattle.std.specs.Slices.{found};
 ghost use Rattle.std.specs.declared.option.Option.the-variants.{Some, None};
-ghost use Rattle.model.specs.Limits.{longest, quarters};
+ghost use Rattle.model.specs.Limits.{longest, idle-length, quarters};
 ghost use Rattle.model.specs.Table.{at, change};
-ghost use Rattle.model.specs.Turn.{sender as sender-of, length-of, answer-of, turned, sends, hands-on, takes-up, charged};
+ghost use Rattle.model.specs.Turn.{sender as sender-of, front, length-of, answer-of, turned, popped, sends, hands-on, takes-up, charged};
 ghost use Rattle.table.specs.Places.{table-of};
 ghost use Rattle.cell.specs.Room.{Has-room};
 ghost use Rattle.cell.specs.Ways.{way-as, turn-with, turn-from};
@@ -29,7 +30,7 @@ const IDLE_LENGTH: u16 = 256;
 pub(crate) fn carry_out(rows: &mut [Row; 64], keep: u8, chosen: usize, way: Way) -> Turn
     requires keep { ⌜ keep ≤ quarters ⌝ }
     requires chosen { ⌜ chosen < 64 ⌝ }
-    requires sender { ⌜ ((q : ℕ) → sender-of chosen (way-as way) ≡ Some q → q < 64) ⌝ }
+    requires sender { ⌜ found (sender-of chosen (way-as way)) (λ q. q < 64) ⌝ }
     requires short { ⌜ length-of (table-of (now rows)) (sender-of chosen (way-as way)) ≤ longest ⌝ }
     requires room { ⌜ ((j : ℕ) → Has-room (at (table-of (now rows)) j)) ⌝ }
     ensures answer { λ r. ⌜ r ≡ answer-of (table-of (now (rows .entry))) chosen (way-as way) ⌝ }
@@ -69,10 +70,19 @@ fn handed_turn(rows: &mut [Row; 64], keep: u8, chosen: usize, sender: usize, kin
     ensures answer { λ r. ⌜ r ≡ turn-from (table-of (now (rows .entry))) chosen (Some sender) kind ⌝ }
     ensures after { λ r. ⌜ table-of (now (rows .exit)) ≡ change (change (table-of (now (rows .entry))) chosen (hands-on keep (r .length))) sender (takes-up (r .length)) ⌝ }
 {
-    let frame = rows[sender].pop();
+    let frame = take(rows, sender);
     hand_on(&mut rows[chosen], keep, frame.length);
     repay(&mut rows[sender], frame.length);
     sent(chosen, sender, frame, kind)
+}
+
+// Takes the first frame that waits at a place.
+fn take(rows: &mut [Row; 64], place: usize) -> Frame
+    requires { ⌜ place < 64 ⌝ }
+    ensures frame { λ r. ⌜ r ≡ front (at (table-of (now (rows .entry))) place .queue) ⌝ }
+    ensures after { λ _. ⌜ table-of (now (rows .exit)) ≡ change (table-of (now (rows .entry))) place popped ⌝ }
+{
+    rows[place].pop()
 }
 
 // Nobody can send; the chosen session is charged all the same.
@@ -84,7 +94,7 @@ fn idle_turn(rows: &mut [Row; 64], keep: u8, chosen: usize) -> Turn
     ensures after { λ r. ⌜ table-of (now (rows .exit)) ≡ change (table-of (now (rows .entry))) chosen (charged keep 0 (r .length)) ⌝ }
 {
     charge(&mut rows[chosen], keep, 0, IDLE_LENGTH);
-    Turn { chosen: chosen as u8, sent: None, length: IDLE_LENGTH, kind: Kind::Idle }
+    unsent(chosen)
 }
 
 fn sent(chosen: usize, sender: usize, frame: Frame, kind: Kind) -> Turn
@@ -94,4 +104,11 @@ fn sent(chosen: usize, sender: usize, frame: Frame, kind: Kind) -> Turn
 {
     let sent = Sent { sender: sender as u8, tag: frame.tag };
     Turn { chosen: chosen as u8, sent: Some(sent), length: frame.length, kind }
+}
+
+fn unsent(chosen: usize) -> Turn
+    requires { ⌜ chosen < 64 ⌝ }
+    ensures { λ r. ⌜ r ≡ record { chosen = chosen; sent = None; length = idle-length; kind = Kind.Idle } ⌝ }
+{
+    Turn { chosen: chosen as u8, sent: None, length: IDLE_LENGTH, kind: Kind::Idle }
 }

@@ -39,7 +39,12 @@ pub(crate) fn tell<C: Chooser>(chooser: &mut C, line: Line, rows: &[Row; 64], be
 }
 
 // Tells of all who joined a list, credit before extra, and answers where the mark is then.
-pub(crate) fn settle<C: Chooser>(rows: &[Row; 64], before: &Before, mark: u64, chooser: &mut C) -> u64
+pub(crate) fn settle<C: Chooser>(
+    rows: &[Row; 64],
+    before: &Before,
+    mark: u64,
+    chooser: &mut C,
+) -> u64
     requires { ⌜ Offerable (table-of (now rows)) ⌝ }
     ensures mark { λ r. ⌜ r ≡ mark-from (least (table-of (now (rows .entry)))) (now (before .entry) .idle) (greatest (table-of (now (rows .entry)))) mark ⌝ }
     ensures told { λ _. ⌜ now (chooser .exit) ≡ joins (meaning pick afterServed afterJoined afterCleared) Extra (now (before .entry) .extra) (table-of (now (rows .entry))) (joins (meaning pick afterServed afterJoined afterCleared) Credit (now (before .entry) .credit) (table-of (now (rows .entry))) (now (chooser .entry))) ⌝ }

@@ -1,7 +1,7 @@
 // The turn.
 ghost use mathlib.Core.Path.{_≡_};
-ghost use Prim.Native.Nat.{ℕ, _<_};
-ghost use Rattle.std.specs.declared.option.Option.the-variants.{Some};
+ghost use Prim.Native.Nat.{_<_};
+ghost use Rattle.std.specs.Slices.{found as is-found};
 ghost use Rattle.model.specs.Calls.{turn as a-turn, refusal, found, decide as decided, heard, step};
 ghost use Rattle.model.specs.Cell.{mark-after, all-joins};
 ghost use Rattle.model.specs.Departures.{departures};
@@ -77,7 +77,7 @@ fn pass<C: Chooser>(rows: &mut [Row; 64], mark: &mut u64, chooser: &mut C, keep:
 
 // The chooser hears who was served in another's turn.
 fn tell_served<C: Chooser>(chooser: &mut C, way: Way, rows: &[Row; 64], bytes: u16)
-    requires { ⌜ ((q : ℕ) → handed-to (way-as way) ≡ Some q → q < 64) ⌝ }
+    requires { ⌜ is-found (handed-to (way-as way)) (λ q. q < 64) ⌝ }
     ensures { λ _. ⌜ now (chooser .exit) ≡ heard (meaning pick afterServed afterJoined afterCleared) (only (now (chooser .entry)) (table-of (now (rows .entry)))) (way-as way) bytes ⌝ }
 {
     match way {

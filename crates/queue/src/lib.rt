@@ -12,6 +12,8 @@ mod ring;
 mod slots;
 
 pub use frame::Frame;
+pub use frame::FrameDebug;
+pub use frame::FramePartialEq;
 use ring::Ring;
 use slots::ROOM;
 

@@ -16,7 +16,11 @@ impl Ring {
         ensures { λ r. ⌜ held r ≡ [] ⌝ }
     {
         let blank = Frame { tag: 0, length: 0 };
-        Ring { frames: [blank; ROOM], head: 0, count: 0 }
+        Ring {
+            frames: [blank; ROOM],
+            head: 0,
+            count: 0,
+        }
     }
 
     pub(crate) fn count(&self) -> usize

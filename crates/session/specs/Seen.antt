@@ -14,8 +14,15 @@ use Rattle.session.specs.declared.row.Row.{Row}
 
 abbrev pub seen : Row → Session
 seen r = record {
-  booked = r .booked; rate = r .rate; price = r .price; virtual-time = r .«virtual_time»; lag = r .lag;
-  allowance = r .allowance; good = r .good; active = r .active; queue = waiting (r .queue);
+  booked = r .booked;
+  rate = r .rate;
+  price = r .price;
+  virtual-time = r .«virtual_time»;
+  lag = r .lag;
+  allowance = r .allowance;
+  good = r .good;
+  active = r .active;
+  queue = waiting (r .queue);
 }
 
 -- what an offer of those who stayed in a list says of a session, given whether it stood there before

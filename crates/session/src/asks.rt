@@ -59,9 +59,19 @@ impl Row {
         ensures { λ r. ⌜ r ≡ entry offered (seen (now (self .entry))) ⌝ }
     {
         if offered {
-            Entry { offered: true, lag: self.lag, rate: self.rate, price: self.price }
+            Entry {
+                offered: true,
+                lag: self.lag,
+                rate: self.rate,
+                price: self.price,
+            }
         } else {
-            Entry { offered: false, lag: 0, rate: 1, price: LINK }
+            Entry {
+                offered: false,
+                lag: 0,
+                rate: 1,
+                price: LINK,
+            }
         }
     }
 

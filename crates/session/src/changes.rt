@@ -59,7 +59,11 @@ impl Row {
     fn start(&self, mark: u64) -> u64
         ensures { λ r. ⌜ r ≡ start mark (seen (now (self .entry))) ⌝ }
     {
-        if self.active { self.virtual_time } else { self.virtual_time.max(mark) }
+        if self.active {
+            self.virtual_time
+        } else {
+            self.virtual_time.max(mark)
+        }
     }
 
     // Sets the channel.

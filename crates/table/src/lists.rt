@@ -22,7 +22,12 @@ pub fn members(rows: &[Row; 64], line: Line) -> [bool; 64]
 pub fn stayed(rows: &[Row; 64], line: Line, before: &[bool; 64]) -> [Entry; 64]
     ensures { λ r. ⌜ r ≡ stayed line (now (before .entry)) (table-of (now (rows .entry))) ⌝ }
 {
-    let idle = Entry { offered: false, lag: 0, rate: 1, price: LINK };
+    let idle = Entry {
+        offered: false,
+        lag: 0,
+        rate: 1,
+        price: LINK,
+    };
     let mut entries = [idle; 64];
     for i in 0..64usize {
         entries[i] = rows[i].stays(line, before[i]);

@@ -54,12 +54,6 @@ pub fn mark_after(rows: &[Row; 64], idle: bool, mark: u64) -> u64
 {
     match least_time(rows) {
         Some(time) => time,
-        None => {
-            if idle {
-                mark
-            } else {
-                latest_time(rows)
-            }
-        }
+        None => { if idle { mark } else { latest_time(rows) } }
     }
 }

@@ -6,10 +6,9 @@ use Rattle.model.proofs.Order.{books}
 use Rattle.model.specs.Calls.{Outcome}
 use Rattle.model.specs.Meaning.{Meaning, Lawful, meaning}
 use Rattle.session.specs.Seen.{seen}
-use Rattle.table.specs.Places.{table-of}
 use Rattle.cell.specs.Answers.{answered}
 use Rattle.cell.specs.View.{view}
-use Rattle.cell.proofs.Steps.{closing-leaves, refused, answer-is, cell-is, can-offer, in-order}
+use Rattle.cell.proofs.Steps.{closing-leaves, leaves-order, refused}
 use Rattle.cell.proofs.state.Cell.close.Given as given
 use Rattle.cell.proofs.state.Cell.close.Needs as need
 
@@ -23,23 +22,15 @@ pub put-requires : need.put-requires
 put-requires g c κs =
     let x = c .args .self .now in
     let l = closing-leaves (meant g) (view x) (c .args .place) (seen (c .in-Continue-row .row)) (c .in-Continue-row .ensures tt) in
-    record { inside = l .0; fair = can-offer (meant g) (view x) _ _ _ _ l (law g) (books (x .ordered)) }
-
-pub ghost-self : need.ghost-self
-ghost-self g c =
-    let x = c .args .self .now in
-    let l = closing-leaves (meant g) (view x) (c .args .place) (seen (c .in-Continue-row .row)) (c .in-Continue-row .ensures tt) in
-    let p = c .put .ensures in
-    (in-order (meant g) (view x) _ _ _ _ l (law g) (books (x .ordered)) (table-of (c .put .last .rows)) (c .put .last .mark) (c .put .last .chooser) (p .after) (p .marked) (p .told), tt)
+    record { inside = l .0; ordered = leaves-order (meant g) (view x) (law g) (books (x .ordered)) _ _ _ _ l }
 
 pub returns : need.returns
 returns g c =
     let x = c .args .self .now in
     let l = closing-leaves (meant g) (view x) (c .args .place) (seen (c .in-Continue-row .row)) (c .in-Continue-row .ensures tt) in
-    let p = c .put .ensures in
     record {
-      answer = answer-is (meant g) (view x) _ _ _ _ l;
-      after = cell-is (meant g) (view x) _ _ _ _ l (table-of (c .put .last .rows)) (c .put .last .mark) (c .put .last .chooser) (p .after) (p .marked) (p .told);
+      answer = sym (ap (λ (o : Outcome (meant g)). o .answer) (l .1));
+      after = c .put .ensures ∙ sym (ap (λ (o : Outcome (meant g)). o .cell) (l .1));
     }
 
 pub returns-in-Break-row : need.returns-in-Break-row

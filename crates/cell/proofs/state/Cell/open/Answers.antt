@@ -1,16 +1,16 @@
-use mathlib.Core.Path.{_≡_, sym, ap, _∙_}
+use mathlib.Core.Path.{_≡_, sym, ap, subst, _∙_}
 use Rattle.std.proofs.shelf.Results.{err-from-errBy}
 use Rattle.std.specs.declared.result.Result.the-variants.{Err}
 use Rattle.model.proofs.Meant.{lawful}
 use Rattle.model.proofs.Order.{books}
 use Rattle.model.specs.Calls.{Outcome}
-use Rattle.model.specs.Cell.{all-joins}
 use Rattle.model.specs.Meaning.{Meaning, Lawful, meaning}
+use Rattle.model.specs.Sound.{Sound}
 use Rattle.session.specs.Seen.{seen}
-use Rattle.table.specs.Places.{table-of}
 use Rattle.cell.specs.Answers.{answered}
+use Rattle.cell.specs.Found.{with-chooser, with-session}
 use Rattle.cell.specs.View.{view}
-use Rattle.cell.proofs.Steps.{opening-leaves, refused, answer-is, cell-is, can-offer, in-order}
+use Rattle.cell.proofs.Steps.{opening-leaves, leaves-order, refused}
 use Rattle.cell.proofs.state.Cell.open.Given as given
 use Rattle.cell.proofs.state.Cell.open.Needs as need
 
@@ -24,27 +24,19 @@ pub put-requires : need.put-requires
 put-requires g c κs =
     let x = c .args .self .now in
     let l = opening-leaves (meant g) (view x) (c .args .place) (c .args .rate) (seen (c .in-Continue-row .row)) (c .in-Continue-row .ensures tt) in
-    record { inside = l .0; fair = can-offer (meant g) (view x) _ _ _ _ l (law g) (books (x .ordered)) }
-
-pub ghost-self : need.ghost-self
-ghost-self g c =
-    let x = c .args .self .now in
-    let l = opening-leaves (meant g) (view x) (c .args .place) (c .args .rate) (seen (c .in-Continue-row .row)) (c .in-Continue-row .ensures tt) in
-    let p = c .put .ensures in
     let cleared = c .cleared .ensures ∙ ap (g .C·Chooser .afterCleared (x .chooser)) (c .from .ensures) in
-    let told = p .told ∙ ap (all-joins (meant g) (table-of (x .rows)) (table-of (c .put .last .rows))) cleared in
-    (in-order (meant g) (view x) _ _ _ _ l (law g) (books (x .ordered)) (table-of (c .put .last .rows)) (c .put .last .mark) (c .put .last .chooser) (p .after) (p .marked) told, tt)
+    let ordered = leaves-order (meant g) (view x) (law g) (books (x .ordered)) _ _ _ _ l in
+    record { inside = l .0; ordered = subst (λ (d : g .C .Denot). Sound (with-session (meant g) (with-chooser (view x) d) (c .args .place) (seen (c .in-Continue-row .row)))) (sym cleared) ordered }
 
 pub returns : need.returns
 returns g c =
     let x = c .args .self .now in
     let l = opening-leaves (meant g) (view x) (c .args .place) (c .args .rate) (seen (c .in-Continue-row .row)) (c .in-Continue-row .ensures tt) in
-    let p = c .put .ensures in
     let cleared = c .cleared .ensures ∙ ap (g .C·Chooser .afterCleared (x .chooser)) (c .from .ensures) in
-    let told = p .told ∙ ap (all-joins (meant g) (table-of (x .rows)) (table-of (c .put .last .rows))) cleared in
+    let told = ap (λ (d : g .C .Denot). with-session (meant g) (with-chooser (view x) d) (c .args .place) (seen (c .in-Continue-row .row))) cleared in
     record {
-      answer = answer-is (meant g) (view x) _ _ _ _ l;
-      after = cell-is (meant g) (view x) _ _ _ _ l (table-of (c .put .last .rows)) (c .put .last .mark) (c .put .last .chooser) (p .after) (p .marked) told;
+      answer = sym (ap (λ (o : Outcome (meant g)). o .answer) (l .1));
+      after = c .put .ensures ∙ told ∙ sym (ap (λ (o : Outcome (meant g)). o .cell) (l .1));
     }
 
 pub returns-in-Break-row : need.returns-in-Break-row

@@ -1,0 +1,7 @@
+// The cell and its queues on cases.
+#[cfg(test)]
+mod picture;
+#[cfg(test)]
+mod queues;
+#[cfg(test)]
+mod tests;
