@@ -32,7 +32,8 @@ module _ {C : Type 0} (M : Meaning C) (l : Line) (stay : List Entry) (before : L
   abbrev pub Left : ℕ → C → C
   Left k d = told M l stay k (drop k before) (drop k (table-of rows)) d
 
-  pub told-more : (d : Row) → i < length before → i < length rows → Left i c ≡ Left (i + 1) (cond (not (getD before i false) && in-line l (seen (getD rows i d))) (M .joined c l i stay) c)
+  pub told-more : (d : Row) → i < length before → i < length rows →
+      Left i c ≡ Left (i + 1) (cond (not (getD before i false) && in-line l (seen (getD rows i d))) (M .joined c l i stay) c)
   unfolding told
   told-more d a b =
       let was = drop-more before i false a in
