@@ -25,6 +25,7 @@ use Rattle.tariff.specs.Tariff.{price-of}
 use Rattle.session.specs.Seen.{seen}
 use Rattle.session.specs.declared.row.Row.{Row}
 use Rattle.table.specs.Places.{table-of}
+use Rattle.cell.specs.Answers.{answered}
 use Rattle.cell.specs.Found.{Offerable, before-of, mark-left, joins-left, with-chooser, with-session}
 use Rattle.cell.specs.Plans.{unless, plan}
 use Rattle.cell.specs.declared.before.Before.{Before}
@@ -93,7 +94,8 @@ module _ {C : Type 0} (M : Meaning C) (x : Cell C) where
   changed-to : (place : ℕ) (f : Session → Session) (s : Session) (c : C) → s ≡ f (at (x .table) place) →
       changed M x place f c ≡ record { cell = with-session M (with-chooser x c) place s; answer = Ok Done }
   unfolding settled
-  changed-to place f s c e = ap (λ (u : Table). record { cell = settled M x u (x .turns) c; answer = Ok Done }) (sym (change-to (x .table) place f s e))
+  changed-to place f s c e =
+      ap (λ (u : Table). record { cell = settled M x u (x .turns) c; answer = Ok Done }) (sym (change-to (x .table) place f s e))
 
   leaves : (call : Call) (place : ℕ) (f : Session → Session) (s : Session) (c : C) →
       accepted M x call ≡ changed M x place f c → (refusal x call ≡ None → place < 64) →
@@ -105,7 +107,8 @@ module _ {C : Type 0} (M : Meaning C) (x : Cell C) where
   pub opening-leaves : (place rate : ℕ) (s : Session) → Ok s ≡ plan x (opening place rate) (fresh rate (price-of rate)) →
       Leaves (opening place rate) place s (M .cleared (x .chooser) place)
   unfolding accepted
-  opening-leaves place rate s = leaves (opening place rate) place (λ _. fresh rate (price-of rate)) s (M .cleared (x .chooser) place) refl (inside place _ _)
+  opening-leaves place rate s =
+      leaves (opening place rate) place (λ _. fresh rate (price-of rate)) s (M .cleared (x .chooser) place) refl (inside place _ _)
 
   pub closing-leaves : (place : ℕ) (s : Session) → Ok s ≡ plan x (closing place) vacant → Leaves (closing place) place s (x .chooser)
   unfolding accepted
@@ -122,11 +125,23 @@ module _ {C : Type 0} (M : Meaning C) (x : Cell C) where
   unfolding accepted
   report-leaves place good s = leaves (report place good) place (with-good good) s (x .chooser) refl (inside place _ _)
 
-  -- its books are in order
-  pub leaves-order : Lawful M → Sound x → (call : Call) (place : ℕ) (s : Session) (c : C) → Leaves call place s c →
-      Sound (with-session M (with-chooser x c) place s)
-  leaves-order law b call place s c l = subst (λ (o : Outcome M). Sound (o .cell)) (l .1) (step-sound M law x call b)
+  -- what such a call answers and leaves, its books in order
+  module _ (call : Call) (place : ℕ) (s : Session) (c d : C) (l : Leaves call place s c) (e : d ≡ c) where
+    left : step M x call ≡ record { cell = with-session M (with-chooser x d) place s; answer = Ok Done }
+    left = l .1 ∙ ap (λ (d : C). record { cell = with-session M (with-chooser x d) place s; answer = Ok Done }) (sym e)
 
-  -- a refused call leaves the cell as it was
-  pub refused : (call : Call) (s : Session) (why : Refusal) → Err why ≡ plan x call s → step M x call ≡ record { cell = x; answer = Err why }
-  refused call s why e = refuses call why (not-planned (refusal x call) s why e)
+    pub done-is : Ok Done ≡ step M x call .answer
+    done-is = sym (ap (λ (o : Outcome M). o .answer) left)
+
+    pub cell-is : with-session M (with-chooser x d) place s ≡ step M x call .cell
+    cell-is = sym (ap (λ (o : Outcome M). o .cell) left)
+
+    pub in-order : Lawful M → Sound x → Sound (with-session M (with-chooser x d) place s)
+    in-order law b = subst (λ (o : Outcome M). Sound (o .cell)) left (step-sound M law x call b)
+
+  -- a refused call answers why, and leaves the cell as it was
+  pub refused : (call : Call) (s : Session) (why : Refusal) → Err why ≡ plan x call s → (r : Result (Unit {0}) Refusal) → r ≡ Err why →
+      (answered r ≡ step M x call .answer) × (x ≡ step M x call .cell)
+  refused call s why e r is =
+      let o = refuses call why (not-planned (refusal x call) s why e) in
+      (ap answered is ∙ sym (ap (λ (o : Outcome M). o .answer) o), sym (ap (λ (o : Outcome M). o .cell) o))
