@@ -57,5 +57,6 @@ module _ {keep mark turns : ℕ} {t : Table} (b : Books keep mark turns t) where
       sound-from (stayed l before t) (length-stayed l before t same ∙ n)
       (λ i h.
       let is : getD (stayed l before t) i idle ≡ entry (getD before i false && in-line l (at t i)) (at t i) =
-      getD-stayed l before t i idle false vacant same (omega arith) ∙ ap (λ (s : Session). entry (getD before i false && in-line l s) s) (sym (at-is t i)) in
+      getD-stayed l before t i idle false vacant same (omega arith)
+      ∙ ap (λ (s : Session). entry (getD before i false && in-line l s) s) (sym (at-is t i)) in
       ap sound-entry is ∙ entry-sound l i (getD before i false))

@@ -18,7 +18,8 @@ pub rows-sized : {keep mark turns : ℕ} (rows : List Row) → In-order keep mar
 rows-sized rows o = sym (length-table rows) ∙ books o .size
 
 -- a row put at a place
-pub put-row : (rows : List Row) (i place : ℕ) (row : Row) → i ≡ place → length rows ≡ 64 → place < 64 → table-of (set rows i row) ≡ change (table-of rows) place (λ s. seen row)
+pub put-row : (rows : List Row) (i place : ℕ) (row : Row) → i ≡ place → length rows ≡ 64 → place < 64 →
+    table-of (set rows i row) ≡ change (table-of rows) place (λ s. seen row)
 put-row rows i place row e n l =
     ap (λ (k : ℕ). table-of (set rows k row)) e ∙ written rows place row row (λ s. seen row) (omega arith) refl
 

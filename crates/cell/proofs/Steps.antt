@@ -16,17 +16,17 @@ use Rattle.answer.specs.declared.turn.Answer.the-variants.{Done}
 use Rattle.model.proofs.Books.{step-sound}
 use Rattle.model.proofs.Tables.{at-is, change-is}
 use Rattle.model.specs.Calls.{Call, opening, closing, arrival, report, refusal, arrived, Outcome, changed, accepted, outcome, step}
-use Rattle.model.specs.Cell.{Cell, mark-from, mark-after, joins, all-joins, settled}
-use Rattle.model.specs.Lists.{Credit, Extra}
+use Rattle.model.specs.Cell.{Cell, mark-after, all-joins, settled}
 use Rattle.model.specs.Meaning.{Meaning, Lawful}
 use Rattle.model.specs.Session.{Frame, Session, vacant, fresh, with-good}
 use Rattle.model.specs.Sound.{Sound}
-use Rattle.model.specs.Table.{Table, at, change, least, greatest}
+use Rattle.model.specs.Table.{Table, at, change}
 use Rattle.tariff.specs.Tariff.{price-of}
 use Rattle.session.specs.Seen.{seen}
 use Rattle.session.specs.declared.row.Row.{Row}
 use Rattle.table.specs.Places.{table-of}
-use Rattle.cell.specs.Found.{Offerable, before-of, with-chooser, with-session}
+use Rattle.cell.specs.Answers.{answered}
+use Rattle.cell.specs.Found.{Offerable, before-of, mark-left, joins-left, with-chooser, with-session}
 use Rattle.cell.specs.Plans.{unless, plan}
 use Rattle.cell.specs.declared.before.Before.{Before}
 use Rattle.cell.proofs.Offering.{offerable}
@@ -60,13 +60,12 @@ module _ {C : Type 0} (M : Meaning C) (keep mark turns : ℕ) (rows : List Row) 
   abbrev now : Table
   now = table-of (set rows i row)
 
-  pub put-is : i ≡ place → length rows ≡ 64 → place < 64 → b ≡ before-of (table-of rows) → m ≡ mark-from (least now) (b .idle) (greatest now) mark →
-      d ≡ joins M Extra (b .extra) now (joins M Credit (b .credit) now c) →
+  pub put-is : i ≡ place → length rows ≡ 64 → place < 64 → b ≡ before-of (table-of rows) → m ≡ mark-left b now mark → d ≡ joins-left M b now c →
       _≡_ {A = Cell C} (record { keep = keep; mark = m; turns = turns; table = now; chooser = d }) (with-session M old place (seen row))
   unfolding settled mark-after all-joins
   put-is same n l e p q =
-      let marked = p ∙ ap (λ (b : Before). mark-from (least now) (b .idle) (greatest now) mark) e in
-      let told = q ∙ ap (λ (b : Before). joins M Extra (b .extra) now (joins M Credit (b .credit) now c)) e in
+      let marked = p ∙ ap (λ (b : Before). mark-left b now mark) e in
+      let told = q ∙ ap (λ (b : Before). joins-left M b now c) e in
       (λ k. record { keep = keep; mark = marked k; turns = turns; table = now; chooser = told k })
       ∙ ap (λ (u : Table). settled M old u turns c) (put-row rows i place row same n l)
 
@@ -95,35 +94,54 @@ module _ {C : Type 0} (M : Meaning C) (x : Cell C) where
   changed-to : (place : ℕ) (f : Session → Session) (s : Session) (c : C) → s ≡ f (at (x .table) place) →
       changed M x place f c ≡ record { cell = with-session M (with-chooser x c) place s; answer = Ok Done }
   unfolding settled
-  changed-to place f s c e = ap (λ (u : Table). record { cell = settled M x u (x .turns) c; answer = Ok Done }) (sym (change-to (x .table) place f s e))
+  changed-to place f s c e =
+      ap (λ (u : Table). record { cell = settled M x u (x .turns) c; answer = Ok Done }) (sym (change-to (x .table) place f s e))
 
-  leaves : (call : Call) (place : ℕ) (f : Session → Session) (s : Session) (c : C) → accepted M x call ≡ changed M x place f c → (refusal x call ≡ None → place < 64) →
+  leaves : (call : Call) (place : ℕ) (f : Session → Session) (s : Session) (c : C) →
+      accepted M x call ≡ changed M x place f c → (refusal x call ≡ None → place < 64) →
       Ok s ≡ plan x call (f (at (x .table) place)) → Leaves call place s c
   leaves call place f s c is within e =
       let p = planned (refusal x call) (f (at (x .table) place)) s e in
       (within (p .0), accepts call (p .0) ∙ is ∙ changed-to place f s c (p .1))
 
-  pub opening-leaves : (place rate : ℕ) (s : Session) → Ok s ≡ plan x (opening place rate) (fresh rate (price-of rate)) → Leaves (opening place rate) place s (M .cleared (x .chooser) place)
+  pub opening-leaves : (place rate : ℕ) (s : Session) → Ok s ≡ plan x (opening place rate) (fresh rate (price-of rate)) →
+      Leaves (opening place rate) place s (M .cleared (x .chooser) place)
   unfolding accepted
-  opening-leaves place rate s = leaves (opening place rate) place (λ _. fresh rate (price-of rate)) s (M .cleared (x .chooser) place) refl (inside place _ _)
+  opening-leaves place rate s =
+      leaves (opening place rate) place (λ _. fresh rate (price-of rate)) s (M .cleared (x .chooser) place) refl (inside place _ _)
 
   pub closing-leaves : (place : ℕ) (s : Session) → Ok s ≡ plan x (closing place) vacant → Leaves (closing place) place s (x .chooser)
   unfolding accepted
   closing-leaves place s = leaves (closing place) place (λ _. vacant) s (x .chooser) refl (inside place _ _)
 
-  pub arrival-leaves : (place : ℕ) (f : Frame) (s : Session) → Ok s ≡ plan x (arrival place (f .tag) (f .length)) (arrived (x .mark) f (at (x .table) place)) →
+  pub arrival-leaves : (place : ℕ) (f : Frame) (s : Session) →
+      Ok s ≡ plan x (arrival place (f .tag) (f .length)) (arrived (x .mark) f (at (x .table) place)) →
       Leaves (arrival place (f .tag) (f .length)) place s (x .chooser)
   unfolding accepted
   arrival-leaves place f s = leaves (arrival place (f .tag) (f .length)) place (arrived (x .mark) f) s (x .chooser) refl (inside place _ _)
 
-  pub report-leaves : (place : ℕ) (good : Bool) (s : Session) → Ok s ≡ plan x (report place good) (with-good good (at (x .table) place)) → Leaves (report place good) place s (x .chooser)
+  pub report-leaves : (place : ℕ) (good : Bool) (s : Session) → Ok s ≡ plan x (report place good) (with-good good (at (x .table) place)) →
+      Leaves (report place good) place s (x .chooser)
   unfolding accepted
   report-leaves place good s = leaves (report place good) place (with-good good) s (x .chooser) refl (inside place _ _)
 
-  -- its books are in order
-  pub leaves-order : Lawful M → Sound x → (call : Call) (place : ℕ) (s : Session) (c : C) → Leaves call place s c → Sound (with-session M (with-chooser x c) place s)
-  leaves-order law b call place s c l = subst (λ (o : Outcome M). Sound (o .cell)) (l .1) (step-sound M law x call b)
+  -- what such a call answers and leaves, its books in order
+  module _ (call : Call) (place : ℕ) (s : Session) (c d : C) (l : Leaves call place s c) (e : d ≡ c) where
+    left : step M x call ≡ record { cell = with-session M (with-chooser x d) place s; answer = Ok Done }
+    left = l .1 ∙ ap (λ (d : C). record { cell = with-session M (with-chooser x d) place s; answer = Ok Done }) (sym e)
 
-  -- a refused call leaves the cell as it was
-  pub refused : (call : Call) (s : Session) (why : Refusal) → Err why ≡ plan x call s → step M x call ≡ record { cell = x; answer = Err why }
-  refused call s why e = refuses call why (not-planned (refusal x call) s why e)
+    pub done-is : Ok Done ≡ step M x call .answer
+    done-is = sym (ap (λ (o : Outcome M). o .answer) left)
+
+    pub cell-is : with-session M (with-chooser x d) place s ≡ step M x call .cell
+    cell-is = sym (ap (λ (o : Outcome M). o .cell) left)
+
+    pub in-order : Lawful M → Sound x → Sound (with-session M (with-chooser x d) place s)
+    in-order law b = subst (λ (o : Outcome M). Sound (o .cell)) left (step-sound M law x call b)
+
+  -- a refused call answers why, and leaves the cell as it was
+  pub refused : (call : Call) (s : Session) (why : Refusal) → Err why ≡ plan x call s → (r : Result (Unit {0}) Refusal) → r ≡ Err why →
+      (answered r ≡ step M x call .answer) × (x ≡ step M x call .cell)
+  refused call s why e r is =
+      let o = refuses call why (not-planned (refusal x call) s why e) in
+      (ap answered is ∙ sym (ap (λ (o : Outcome M). o .answer) o), sym (ap (λ (o : Outcome M). o .cell) o))

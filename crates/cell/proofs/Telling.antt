@@ -32,9 +32,11 @@ module _ {C : Type 0} (M : Meaning C) (l : Line) (stay : List Entry) (before : L
   abbrev pub Left : ℕ → C → C
   Left k d = told M l stay k (drop k before) (drop k (table-of rows)) d
 
-  pub told-more : (d : Row) → i < length before → i < length rows → Left i c ≡ Left (i + 1) (cond (not (getD before i false) && in-line l (seen (getD rows i d))) (M .joined c l i stay) c)
+  pub told-more : (d : Row) → i < length before → i < length rows →
+      Left i c ≡ Left (i + 1) (cond (not (getD before i false) && in-line l (seen (getD rows i d))) (M .joined c l i stay) c)
   unfolding told
   told-more d a b =
+      let next = cond (not (getD before i false) && in-line l (seen (getD rows i d))) (M .joined c l i stay) c in
       let was = drop-more before i false a in
       let is = drop-more (table-of rows) i (seen d) (omega (arith, length-table rows)) in
       let here = getD-table rows i d (seen d) b in
@@ -42,7 +44,7 @@ module _ {C : Type 0} (M : Meaning C) (l : Line) (stay : List Entry) (before : L
       ap (λ bs. told M l stay i bs (drop i (table-of rows)) c) was
       ∙ ap (λ t. told M l stay i (getD before i false ∷ drop (i + 1) before) t c) is
       ∙ ap more here
-      ∙ ap (λ k. told M l stay k (drop (i + 1) before) (drop (i + 1) (table-of rows)) (cond (not (getD before i false) && in-line l (seen (getD rows i d))) (M .joined c l i stay) c)) (sym (add-one i))
+      ∙ ap (λ k. told M l stay k (drop (i + 1) before) (drop (i + 1) (table-of rows)) next) (sym (add-one i))
 
   pub told-all : length before ≤ i → Left i c ≡ c
   unfolding told

@@ -5,16 +5,23 @@ use mathlib.Core.List.{List}
 use Prim.Native.Nat.{ℕ}
 use lib.ListN.{length}
 use Rattle.chooser.specs.Offers.{sound}
-use Rattle.model.specs.Cell.{Cell, settled}
+use Rattle.model.specs.Cell.{Cell, mark-from, joins, settled}
 use Rattle.model.specs.Limits.{places}
 use Rattle.model.specs.Lists.{Line, Credit, Extra, in-list, stayed}
 use Rattle.model.specs.Meaning.{Meaning}
 use Rattle.model.specs.Session.{Session}
-use Rattle.model.specs.Table.{Table, change, none-active}
+use Rattle.model.specs.Table.{Table, change, least, greatest, none-active}
 use Rattle.cell.specs.declared.before.Before.{Before}
 
 abbrev pub before-of : Table → Before
 before-of t = record { credit = in-list Credit t; extra = in-list Extra t; idle = none-active t }
+
+-- where the mark is then, and what the chooser is once it has heard of all joins, for table u that the call leaves
+abbrev pub mark-left : Before → Table → ℕ → ℕ
+mark-left before u mark = mark-from (least u) (before .idle) (greatest u) mark
+
+abbrev pub joins-left : {C : Type 0} → Meaning C → Before → Table → C → C
+joins-left M before u c = joins M Extra (before .extra) u (joins M Credit (before .credit) u c)
 
 -- whoever stayed in a list can be offered
 abbrev pub Offerable : Table → Type 0

@@ -1,12 +1,9 @@
 // What every accepted call does last: the mark follows the table, and the chooser hears who joined a list.
 ghost use mathlib.Core.Path.{_≡_};
-ghost use Prim.Native.Nat.{_<_};
-ghost use Rattle.model.specs.Cell.{joins, mark-from};
-ghost use Rattle.model.specs.Lists.{Credit, Extra, stayed};
+ghost use Rattle.model.specs.Cell.{joins};
+ghost use Rattle.model.specs.Lists.{stayed};
 ghost use Rattle.model.specs.Meaning.{meaning};
-ghost use Rattle.model.specs.Table.{change, least, greatest};
-ghost use Rattle.cell.specs.Found.{Offerable};
-ghost use Rattle.session.specs.Seen.{seen};
+ghost use Rattle.cell.specs.Found.{Offerable, mark-left, joins-left};
 ghost use Rattle.table.specs.Places.{table-of};
 use super::before::Before;
 use chooser::Chooser;
@@ -28,7 +25,11 @@ pub(crate) fn offer(rows: &[Row; 64], line: Line, before: &[bool; 64]) -> Offer
 // Tells of each place that is in a list now and was not, in ascending place.
 pub(crate) fn tell<C: Chooser>(chooser: &mut C, line: Line, rows: &[Row; 64], before: &[bool; 64])
     requires { ⌜ Offerable (table-of (now rows)) ⌝ }
-    ensures { λ _. ⌜ now (chooser .exit) ≡ joins (meaning pick afterServed afterJoined afterCleared) line (now (before .entry)) (table-of (now (rows .entry))) (now (chooser .entry)) ⌝ }
+    ensures {
+        λ _. ⌜ now (chooser .exit) ≡
+            joins (meaning pick afterServed afterJoined afterCleared) line (now (before .entry))
+            (table-of (now (rows .entry))) (now (chooser .entry)) ⌝
+    }
 {
     let stay = offer(rows, line, before);
     for i in 0..64usize {
@@ -46,8 +47,12 @@ pub(crate) fn settle<C: Chooser>(
     chooser: &mut C,
 ) -> u64
     requires { ⌜ Offerable (table-of (now rows)) ⌝ }
-    ensures mark { λ r. ⌜ r ≡ mark-from (least (table-of (now (rows .entry)))) (now (before .entry) .idle) (greatest (table-of (now (rows .entry)))) mark ⌝ }
-    ensures told { λ _. ⌜ now (chooser .exit) ≡ joins (meaning pick afterServed afterJoined afterCleared) Extra (now (before .entry) .extra) (table-of (now (rows .entry))) (joins (meaning pick afterServed afterJoined afterCleared) Credit (now (before .entry) .credit) (table-of (now (rows .entry))) (now (chooser .entry))) ⌝ }
+    ensures mark { λ r. ⌜ r ≡ mark-left (now (before .entry)) (table-of (now (rows .entry))) mark ⌝ }
+    ensures told {
+        λ _. ⌜ now (chooser .exit) ≡
+            joins-left (meaning pick afterServed afterJoined afterCleared) (now (before .entry))
+            (table-of (now (rows .entry))) (now (chooser .entry)) ⌝
+    }
 {
     tell(chooser, Line::Credit, rows, &before.credit);
     tell(chooser, Line::Extra, rows, &before.extra);

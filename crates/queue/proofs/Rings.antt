@@ -45,7 +45,8 @@ around-more xs h (suc n) l =
     let after : ℕ → List Frame = λ k. getD xs h no-frame ∷ around xs ((h + 1) % 32) n ++ getD xs k no-frame ∷ [] in
     ap (λ r. getD xs h no-frame ∷ r) (around-more xs ((h + 1) % 32) n l′) ∙ ap after same
 
-pub around-push : (xs : List Frame) (h n : ℕ) (f : Frame) → length xs ≡ 32 → h < 32 → n < 32 → around (set xs ((h + n) % 32) f) h (n + 1) ≡ around xs h n ++ f ∷ []
+pub around-push : (xs : List Frame) (h n : ℕ) (f : Frame) → length xs ≡ 32 → h < 32 → n < 32 →
+    around (set xs ((h + n) % 32) f) h (n + 1) ≡ around xs h n ++ f ∷ []
 around-push xs h n f e l b =
     let p : (h + n) % 32 < length xs = omega arith in
     let apart : (k : ℕ) → k < n → (h + k) % 32 ≢ (h + n) % 32 = λ k c d. omega arith in

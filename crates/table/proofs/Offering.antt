@@ -20,7 +20,8 @@ use Rattle.table.proofs.Tables.{length-table, getD-table}
 pub length-made : {Y : Type 0} (f : Session → Y) (rows : List Row) → length (map f (table-of rows)) ≡ length rows
 length-made f rows = length-map (table-of rows) f ∙ length-table rows
 
-pub getD-made : {Y : Type 0} (f : Session → Y) (rows : List Row) (i : ℕ) (d : Row) (e : Y) → i < length rows → getD (map f (table-of rows)) i e ≡ f (seen (getD rows i d))
+pub getD-made : {Y : Type 0} (f : Session → Y) (rows : List Row) (i : ℕ) (d : Row) (e : Y) → i < length rows →
+    getD (map f (table-of rows)) i e ≡ f (seen (getD rows i d))
 getD-made f rows i d e l =
     let m : i < length (table-of rows) = omega (arith, length-table rows) in
     getD-map f (table-of rows) i (seen d) e m ∙ ap f (getD-table rows i d (seen d) l)
@@ -31,7 +32,8 @@ length-stayed l [] t e = refl
 length-stayed l (b ∷ bs) [] e = absurd (omega arith)
 length-stayed l (b ∷ bs) (s ∷ t) e = ap suc (length-stayed l bs t (omega arith))
 
-pub getD-stayed : (l : Line) (bs : List Bool) (t : Table) (i : ℕ) (e : Entry) (b : Bool) (d : Session) → length bs ≡ length t → i < length bs → getD (stayed l bs t) i e ≡ entry (getD bs i b && in-line l (getD t i d)) (getD t i d)
+pub getD-stayed : (l : Line) (bs : List Bool) (t : Table) (i : ℕ) (e : Entry) (b : Bool) (d : Session) → length bs ≡ length t →
+    i < length bs → getD (stayed l bs t) i e ≡ entry (getD bs i b && in-line l (getD t i d)) (getD t i d)
 unfolding stayed
 getD-stayed l [] t i e b d same h = absurd (omega arith)
 getD-stayed l (x ∷ bs) [] i e b d same h = absurd (omega arith)

@@ -29,13 +29,15 @@ pub at-table : (rows : List Row) (i : ℕ) (d : Row) → i < length rows → at 
 at-table rows i d l = at-is (table-of rows) i ∙ getD-table rows i d vacant l
 
 -- a row that is written as f changes its session
-pub written : (rows : List Row) (i : ℕ) (d r : Row) (f : Session → Session) → i < length rows → seen r ≡ f (seen (getD rows i d)) → table-of (set rows i r) ≡ change (table-of rows) i f
+pub written : (rows : List Row) (i : ℕ) (d r : Row) (f : Session → Session) → i < length rows → seen r ≡ f (seen (getD rows i d)) →
+    table-of (set rows i r) ≡ change (table-of rows) i f
 unfolding table-of
 written rows i d r f l made =
     map-set seen rows i r ∙ ap (set (map seen rows) i) (made ∙ ap f (sym (getD-table rows i d vacant l))) ∙ sym (change-is (table-of rows) i f)
 
 -- a function of what is left of a table, one row on and at the end
-pub left-more : {Y : Type 0} (F : Table → Y) (rows : List Row) (i : ℕ) (d : Row) → i < length rows → F (drop i (table-of rows)) ≡ F (seen (getD rows i d) ∷ drop (i + 1) (table-of rows))
+pub left-more : {Y : Type 0} (F : Table → Y) (rows : List Row) (i : ℕ) (d : Row) → i < length rows →
+    F (drop i (table-of rows)) ≡ F (seen (getD rows i d) ∷ drop (i + 1) (table-of rows))
 left-more F rows i d l =
     let m : i < length (table-of rows) = omega (arith, length-table rows) in
     at-drop-more F (table-of rows) i vacant m ∙ ap (λ s. F (s ∷ drop (i + 1) (table-of rows))) (getD-table rows i d vacant l)
@@ -44,6 +46,7 @@ pub left-all : {Y : Type 0} (F : Table → Y) (rows : List Row) (i : ℕ) → le
 left-all F rows i l = at-drop-all F (table-of rows) i (omega (arith, length-table rows))
 
 -- the virtual time of a place that is inside, read from its row
-pub times-read : (rows : List Row) (d : Row) (o : Option ℕ) → length rows ≡ 64 → found o (λ i. i < 64) → mapped (λ i. getD rows i d .«virtual_time») o ≡ mapped (λ i. at (table-of rows) i .virtual-time) o
+pub times-read : (rows : List Row) (d : Row) (o : Option ℕ) → length rows ≡ 64 → found o (λ i. i < 64) →
+    mapped (λ i. getD rows i d .«virtual_time») o ≡ mapped (λ i. at (table-of rows) i .virtual-time) o
 times-read rows d None n h = refl
 times-read rows d (Some i) n h = ap (λ (s : Session). Some (s .virtual-time)) (sym (at-table rows i d (omega arith)))

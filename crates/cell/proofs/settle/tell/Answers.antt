@@ -26,11 +26,12 @@ loop-i-again g c =
     let i = c .loop-i .i in
     let now = c .loop-i .chooser in
     let joins-now = ap (λ b. not (getD before i false) && b) (sym (c .stands-in .ensures)) in
+    let told-now = sym (if-sound-is now (g .C·Chooser .afterJoined now line i) stay) in
     let step = told-more M line (stay .entries) before rows i now (c .index-rows-i .result) (omega arith) (omega arith) in
     let next = Left M line (stay .entries) before rows i now (i + 1) in
     elim (c .if-before-i .came) [
       | then-before-i w ↦
-          ap next (w .chooser-is ∙ w .joined .ensures ∙ sym (if-sound-is now (g .C·Chooser .afterJoined now line i) stay) ∙ sym (cond-true _ _ _ (joins-now ∙ w .if-before-i .taken)))
+          ap next (w .chooser-is ∙ w .joined .ensures ∙ told-now ∙ sym (cond-true _ _ _ (joins-now ∙ w .if-before-i .taken)))
           ∙ sym step ∙ c .loop-i .inv
       | else-before-i w ↦ ap next (w .chooser-is ∙ sym (cond-false _ _ _ (joins-now ∙ w .if-before-i .left))) ∙ sym step ∙ c .loop-i .inv
     ]

@@ -19,10 +19,10 @@ loop-i-again c =
     let before = c .args .before .now in
     let i = c .loop-i .i in
     let d = c .index-rows-i .result in
-    let same : length before ≡ length (table-of rows) = omega (arith, length-table rows) in (
+    let same : length before ≡ length (table-of rows) = omega (arith, length-table rows) in
+    let long = length-stayed line before (table-of rows) same in (
       simp length-set (c .loop-i .inv .0),
-      built-more (c .loop-i .entries) (stayed line before (table-of rows)) i _ idle (omega arith) (omega (arith, length-stayed line before (table-of rows) same))
-          (c .loop-i .inv .1)
+      built-more (c .loop-i .entries) (stayed line before (table-of rows)) i _ idle (omega arith) (omega (arith, long)) (c .loop-i .inv .1)
           (c .stays .ensures ∙ sym (getD-stayed line before (table-of rows) i idle false (seen d) same (omega arith)
           ∙ ap (stay line (getD before i false)) (getD-table rows i d (seen d) (omega arith)))),
     )

@@ -6,7 +6,9 @@ use Rattle.table.proofs.times.latest_time.Needs as need
 
 pub loop-i-again : need.loop-i-again
 unfolding greatest
-loop-i-again c = omega (arith, left-more greatest (c .args .rows .now) (c .loop-i .i) (c .index-rows-i .result) (omega arith), c .max-last .ensures, c .loop-i .inv)
+loop-i-again c =
+    let more = left-more greatest (c .args .rows .now) (c .loop-i .i) (c .index-rows-i .result) (omega arith) in
+    omega (arith, more, c .max-last .ensures, c .loop-i .inv)
 
 pub returns : need.returns
 unfolding greatest

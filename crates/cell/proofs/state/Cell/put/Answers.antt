@@ -15,7 +15,8 @@ meant g = meaning (g .C·Chooser .pick) (g .C·Chooser .afterServed) (g .C·Choo
 pub settle-self-requires : need.settle-self-requires
 settle-self-requires g c κs =
     let x = c .args .self .now in
-    let at-place = put-row (x .rows) (c .from .result) (c .args .place) (c .args .row) (c .from .ensures) (rows-sized (x .rows) (x .ordered)) (c .pre .inside) in
+    let sized = rows-sized (x .rows) (x .ordered) in
+    let at-place = put-row (x .rows) (c .from .result) (c .args .place) (c .args .row) (c .from .ensures) sized (c .pre .inside) in
     subst Offerable (sym at-place) (settled-offers (meant g) (view x) _ (c .pre .ordered))
 
 pub ghost-self : need.ghost-self
