@@ -3,6 +3,7 @@ ghost use mathlib.Core.Path.{_≡_};
 ghost use Rattle.std.specs.Vec.{refused};
 ghost use Rattle.model.specs.Calls.{opening, closing, arrival, report, step, make};
 ghost use Rattle.model.specs.Meaning.{meaning};
+ghost use Rattle.model.specs.Promises.{Promises};
 ghost use Rattle.cell.specs.Answers.{made-as, answered};
 ghost use Rattle.cell.specs.View.{view};
 use super::state::Cell;
@@ -16,8 +17,16 @@ use session::Row;
 const QUARTERS: u8 = 4;
 
 impl<C: Chooser> Cell<C> {
-    // A new cell; where the keep is above 4, the chooser comes back.
+    // A new cell; where the keep is above 4, the chooser comes back. Whatever is called on it from here on, it keeps its promises.
     pub fn new(keep: u8, chooser: C) -> Result<Cell<C>, Unmade<C>>
+        ensures made { λ r. ⌜ made-as r ≡ make keep chooser ⌝ }
+        ensures back { λ r. ⌜ refused r (λ u. u .chooser ≡ chooser) ⌝ }
+        ensures promises { λ _. ⌜ Promises {C = C} (meaning pick afterServed afterJoined afterCleared) ⌝ }
+    {
+        Cell::vacant(keep, chooser)
+    }
+
+    fn vacant(keep: u8, chooser: C) -> Result<Cell<C>, Unmade<C>>
         ensures made { λ r. ⌜ made-as r ≡ make keep chooser ⌝ }
         ensures back { λ r. ⌜ refused r (λ u. u .chooser ≡ chooser) ⌝ }
     {
