@@ -1,12 +1,10 @@
 -- A turn that is accepted: what the books say of it before, in its midst and after it.
-use Prim.Native.Nat.{ℕ, zero, suc, _+_, _*_, _≤_, _<_}
+use Prim.Native.Nat.{ℕ, _+_, _<_}
 use mathlib.Core.Path.{_≡_, refl, sym, ap, subst, _∙_}
 use mathlib.Core.Bool.{Bool, true, false, cond}
-use mathlib.Core.Logic.{_⊎_, inl, inr}
 use native.Mathlib.Omega.{arith}
 use lib.Dec.{leb}
-use lib.ListN.{length}
-use Rattle.std.proofs.shelf.Tests.{cases-bool, lt-leb, leb-false}
+use Rattle.std.proofs.shelf.Tests.{lt-leb, leb-false}
 use Rattle.std.specs.Slices.{found as is-found}
 use Rattle.std.specs.declared.option.Option.{Option}
 use Rattle.std.specs.declared.option.Option.the-variants.{None, Some}
@@ -15,20 +13,20 @@ use Rattle.answer.specs.declared.turn.Answer.the-variants.{Turn as Turned}
 use Rattle.answer.specs.declared.turn.Turn.{Turn}
 use Rattle.std.specs.declared.result.Result.the-variants.{Ok}
 use Rattle.chooser.specs.Offers.{lag-bound}
-use Rattle.tariff.specs.Tariff.{link}
 use Rattle.model.specs.Calls.{turn, refusal, found, decide, heard, Outcome, turn-after, turn-of, accepted, outcome, step}
 use Rattle.model.specs.Cell.{Cell, mark-after, all-joins, settled}
 use Rattle.model.specs.Departures.{departures}
-use Rattle.model.specs.Limits.{places, longest, most-turns}
+use Rattle.model.specs.Limits.{most-turns}
 use Rattle.model.specs.Meaning.{Meaning, Lawful}
-use Rattle.model.specs.Session.{Session}
-use Rattle.model.specs.Sound.{Orderly, Midway, Sound, In-order}
+use Rattle.model.specs.Sound.{Midway, Sound, In-order}
 use Rattle.model.specs.Table.{Table, at, change, is-none, none-active, chosen}
 use Rattle.model.specs.Turn.{Way, by-right, by-allowance, by-credit, unclaimed, by-extra, idle, sender, length-of, answer-of, sends, charged, hands-on, takes-up, turned}
-use Rattle.model.proofs.Books.{step-sound}
+use Rattle.model.proofs.Books.{ordered-of, step-sound}
 use Rattle.model.proofs.Chosen.{chosen-next, chosen-some}
 use Rattle.model.proofs.Tables.{change-same}
-use Rattle.model.proofs.Uses.{lag-low, turn-length, turn-sender, turn-midway}
+use Rattle.model.proofs.Senders.{Rightly, decides}
+use Rattle.model.proofs.Turn.{apart-credit, apart-extra}
+use Rattle.model.proofs.Uses.{lag-low, turn-sender, turn-midway}
 use Rattle.table.proofs.Dues.{idle-is}
 use Rattle.cell.specs.Found.{Offerable}
 use Rattle.cell.specs.Plans.{unless}
@@ -37,19 +35,6 @@ use Rattle.cell.specs.Turns.{Accepted}
 use Rattle.cell.specs.Ways.{handed-to, only}
 use Rattle.cell.proofs.Offering.{offerable}
 use Rattle.cell.proofs.Steps.{planned}
-
--- ---- one place
-
-price-within : {mark turns : ℕ} (s : Session) → Orderly mark turns s → s .price ≤ link
-price-within s o = by (cases-bool (s .booked))
-  where
-    exact : (rate : ℕ) → rate * s .price ≡ link → s .price ≤ link
-    exact zero e = absurd (omega arith)
-    exact (suc rate) e = omega arith
-
-    by : (s .booked ≡ true) ⊎ (s .booked ≡ false) → s .price ≤ link
-    by (inl b) = exact (s .rate) (o .priced b)
-    by (inr b) = omega (arith, ap (λ (s : Session). s .price) (o .bare b))
 
 -- ---- ways
 
@@ -66,6 +51,15 @@ handed-sends P c (by-credit q) h = h
 handed-sends P c unclaimed h = tt
 handed-sends P c (by-extra q) h = h
 handed-sends P c idle h = tt
+
+-- and is another than the chosen
+other : (t : Table) (c : ℕ) (w : Way) → Rightly t (at t c) w → is-found (handed-to w) (λ q. c ≡ q → ⊥)
+other t c by-right r = tt
+other t c by-allowance r = tt
+other t c (by-credit q) r = apart-credit t c q r
+other t c unclaimed r = tt
+other t c (by-extra q) r = apart-extra t c q r
+other t c idle r = tt
 
 -- no turn changes a price
 pair-price : (keep n : ℕ) (t : Table) (c q j : ℕ) → at (change (change t c (hands-on keep n)) q (takes-up n)) j .price ≡ at t j .price
@@ -119,12 +113,7 @@ module _ {C : Type 0} (M : Meaning C) (law : Lawful M) (keep mark : ℕ) (t : Ta
   has-room j =
       let o = a .books .rows j in
       let left = a .left in
-      record {
-        price = price-within (at t j) o;
-        time = omega (arith, o .early);
-        allowance = omega (arith, o .modest);
-        lag = omega (arith, lag-low (a .books) j);
-      }
+      record { time = omega (arith, o .early); allowance = omega (arith, o .modest); lag = omega (arith, lag-low (a .books) j) }
 
   -- a turn that is not refused
   goes : refusal cell turn ≡ None
@@ -167,8 +156,9 @@ module _ {C : Type 0} (M : Meaning C) (law : Lawful M) (keep mark : ℕ) (t : Ta
     pub handed-inside : is-found (handed-to w) (λ q. q < 64)
     handed-inside = handed-sends (λ q. q < 64) c w sender-inside
 
-    pub short : length-of t (sender c w) ≤ longest
-    short = subst (λ (w : Way). length-of t (sender c w) ≤ longest) (sym is) (turn-length M law cell (a .books) c (a .next))
+    pub handed-other : is-found (handed-to w) (λ q. c ≡ q → ⊥)
+    handed-other =
+        other t c w (subst (Rightly t (at t c)) (sym is) (decides M law cell c (ordered-of cell (a .books))))
 
     module _ (r : Turn) (answered : r ≡ answer-of t c w) where
       left : turned keep t c (r .length) w ≡ turned keep t c (length-of t (sender c (decide M (only ch t) c))) (decide M (only ch t) c)

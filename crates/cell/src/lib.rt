@@ -1,10 +1,9 @@
 // A radio cell of 64 places under one schedule, over any chooser.
-mod account;
 mod asks;
 mod before;
 mod calls;
 mod decide;
-mod depart;
+mod leave;
 mod plans;
 mod put;
 mod send;

@@ -15,7 +15,7 @@ ghost use Rattle.cell.specs.View.{view};
 ghost use Rattle.cell.specs.Ways.{way-as, handed-to, only};
 use super::before::look;
 use super::decide::decide;
-use super::depart::depart;
+use super::leave::leave;
 use super::send::carry_out;
 use super::settle::settle;
 use super::state::Cell;
@@ -70,7 +70,7 @@ fn pass<C: Chooser>(rows: &mut [Row; 64], mark: &mut u64, chooser: &mut C, keep:
     let way = decide(rows, &before, chooser, chosen);
     let turn = carry_out(rows, keep, chosen, way);
     tell_served(chooser, way, rows, turn.length);
-    depart(rows);
+    leave(rows);
     *mark = settle(rows, &before, *mark, chooser);
     turn
 }

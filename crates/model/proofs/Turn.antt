@@ -92,12 +92,12 @@ not-both : (z : ℤ) → ltZ (pos 0) z ≡ true → ltZ z (pos 0) ≡ true → �
 not-both z e f = omega (arith, ints)
 
 -- whoever takes a turn up is another than the chosen
-apart-credit : (t : Table) (c q : ℕ) → Rightly t (at t c) (by-credit q) → c ≡ q → ⊥
+pub apart-credit : (t : Table) (c q : ℕ) → Rightly t (at t c) (by-credit q) → c ≡ q → ⊥
 apart-credit t c q r e =
     not-both (at t c .lag) (subst (λ (j : ℕ). lags (at t j) ≡ true) (sym e) (r .1))
     (r .2 (subst (λ (j : ℕ). able (at t j) ≡ true) (sym e) (r .0)))
 
-apart-extra : (t : Table) (c q : ℕ) → Rightly t (at t c) (by-extra q) → c ≡ q → ⊥
+pub apart-extra : (t : Table) (c q : ℕ) → Rightly t (at t c) (by-extra q) → c ≡ q → ⊥
 apart-extra t c q r e = both-ways (able (at t c)) (r .1) (subst (λ (j : ℕ). able (at t j) ≡ true) (sym e) (r .0))
 
 -- a chosen session that hands its turn on, and the sender

@@ -10,7 +10,7 @@ use Rattle.model.specs.Turn.{Way, answer-of, turned}
 use Rattle.table.specs.Places.{table-of}
 use Rattle.cell.specs.Ways.{way-as, only}
 use Rattle.cell.specs.declared.before.Before.{Before}
-use Rattle.cell.proofs.Passing.{chosen-inside, can-offer, has-room, sender-inside, handed-inside, short, midway, can-offer-after, heard-after}
+use Rattle.cell.proofs.Passing.{chosen-inside, can-offer, has-room, sender-inside, handed-inside, handed-other, midway, can-offer-after, heard-after}
 use Rattle.cell.proofs.turn.pass.Given as given
 use Rattle.cell.proofs.turn.pass.Needs as need
 
@@ -37,10 +37,9 @@ carry-out-turn-requires g c κs =
     let way = way-as (c .decide-way .result) in
     let is = c .decide-way .ensures in
     record {
-      keep = c .pre .books .modest;
       chosen = chosen-inside (meant g) (law g) _ _ t ch _ (c .pre);
       sender = sender-inside (meant g) (law g) _ _ t ch _ (c .pre) way is;
-      short = short (meant g) (law g) _ _ t ch _ (c .pre) way is;
+      other = handed-other (meant g) (law g) _ _ t ch _ (c .pre) way is;
       room = has-room (meant g) (law g) _ _ t ch _ (c .pre);
     }
 
@@ -48,15 +47,15 @@ pub tell-served-requires : need.tell-served-requires
 tell-served-requires g c κs =
     handed-inside (meant g) (law g) _ _ (table-of (c .args .rows .now)) (c .args .chooser .now) _ (c .pre) (way-as (c .decide-way .result)) (c .decide-way .ensures)
 
-pub depart-requires : need.depart-requires
-depart-requires g c κs =
+pub leave-requires : need.leave-requires
+leave-requires g c κs =
     midway (meant g) (law g) _ _ (table-of (c .args .rows .now)) (c .args .chooser .now) _ (c .pre) (way-as (c .decide-way .result)) (c .decide-way .ensures)
     (c .carry-out-turn .result) (c .carry-out-turn .ensures .answer) _ (c .carry-out-turn .ensures .after)
 
 pub settle-requires : need.settle-requires
 settle-requires g c κs =
     can-offer-after (meant g) (law g) _ _ (table-of (c .args .rows .now)) (c .args .chooser .now) _ (c .pre) (way-as (c .decide-way .result)) (c .decide-way .ensures)
-    (c .carry-out-turn .result) (c .carry-out-turn .ensures .answer) _ _ (c .carry-out-turn .ensures .after) (c .depart .ensures)
+    (c .carry-out-turn .result) (c .carry-out-turn .ensures .answer) _ _ (c .carry-out-turn .ensures .after) (c .leave .ensures)
 
 pub returns : need.returns
 unfolding mark-after all-joins
@@ -67,7 +66,7 @@ returns g c =
     let keep = c .args .keep in
     let chosen = c .args .chosen in
     let n = c .carry-out-turn .result .length in
-    let u = table-of (c .depart .last .rows) in
+    let u = table-of (c .leave .last .rows) in
     let is = c .decide-way .ensures in
     let looked = c .look-before .ensures in
     let way = way-as (c .decide-way .result) in
@@ -75,7 +74,7 @@ returns g c =
       c .tell-served .ensures ∙ ap (λ (v : Table). heard M (only ch v) way n) (c .carry-out-turn .ensures .after) ∙ heard-after M ch keep n t chosen way in
     record {
       answer = c .carry-out-turn .ensures .answer ∙ ap (answer-of t chosen) is;
-      after = c .depart .ensures ∙ ap departures (c .carry-out-turn .ensures .after ∙ ap (turned keep t chosen n) is);
+      after = c .leave .ensures ∙ ap departures (c .carry-out-turn .ensures .after ∙ ap (turned keep t chosen n) is);
       marked = c .settle .ensures .mark ∙ ap (λ (b : Before). mark-from (least u) (b .idle) (greatest u) (c .args .mark .now)) looked;
       told =
         c .settle .ensures .told

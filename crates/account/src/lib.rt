@@ -1,0 +1,6 @@
+// What a turn makes of one session.
+mod account;
+mod charge;
+mod turns;
+
+pub use account::Account;
