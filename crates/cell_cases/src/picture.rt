@@ -46,7 +46,7 @@ fn look_at(cell: &Cell<LeastServed>, at: u8) -> Place {
     }
 }
 
-pub fn look(cell: &Cell<LeastServed>) -> Picture {
+pub(crate) fn look(cell: &Cell<LeastServed>) -> Picture {
     let mut places = [look_at(cell, 0); 64];
     for at in 1..64u8 {
         places[usize::from(at)] = look_at(cell, at);
@@ -74,7 +74,7 @@ impl Place {
 }
 
 impl Picture {
-    pub fn same(&self, other: &Picture) -> bool {
+    pub(crate) fn same(&self, other: &Picture) -> bool {
         for i in 0..64usize {
             if !self.places[i].same(&other.places[i]) {
                 return false;

@@ -26,7 +26,7 @@ pub const UNUSED: [[bool; 8]; 6] = [
 ];
 
 // A fault of the record layer: refusal, record and byte.
-pub fn plain(fault: Fault) -> (u8, u64, usize) {
+pub(crate) fn plain(fault: Fault) -> (u8, u64, usize) {
     match fault.layer {
         Layer::Record => (fault.refusal.number(), fault.record, fault.byte),
         Layer::Cell => (0, 0, 0),
@@ -34,7 +34,7 @@ pub fn plain(fault: Fault) -> (u8, u64, usize) {
 }
 
 // The fault that reading gives, if it gives one.
-pub fn fault_in(input: &[u8], number: u64) -> Option<(u8, u64, usize)> {
+pub(crate) fn fault_in(input: &[u8], number: u64) -> Option<(u8, u64, usize)> {
     match read(input, number) {
         Ok(_) => None,
         Err(fault) => Some(plain(fault)),
@@ -42,7 +42,7 @@ pub fn fault_in(input: &[u8], number: u64) -> Option<(u8, u64, usize)> {
 }
 
 // The same with another byte at a place.
-pub fn fault_with(mut record: [u8; 16], at: usize, byte: u8, number: u64) -> Option<(u8, u64, usize)>
+pub(crate) fn fault_with(mut record: [u8; 16], at: usize, byte: u8, number: u64) -> Option<(u8, u64, usize)>
     requires { ⌜ at < 16 ⌝ }
 {
     record[at] = byte;
@@ -50,7 +50,7 @@ pub fn fault_with(mut record: [u8; 16], at: usize, byte: u8, number: u64) -> Opt
 }
 
 // Each byte of two buffers.
-pub fn same(left: &[u8], right: &[u8]) -> Result<(), Fail> {
+pub(crate) fn same(left: &[u8], right: &[u8]) -> Result<(), Fail> {
     check_eq(left.len(), right.len())?;
     for (a, b) in left.iter().zip(right) {
         check_eq(*a, *b)?;
