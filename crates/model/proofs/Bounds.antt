@@ -112,7 +112,6 @@ module _ (keep n b : ℕ) (t : Table) (c : ℕ) (k : keep ≤ quarters) (d : n *
       each-change (Low (b + dearest)) u q (takes-up n) given (takes-low n (b + dearest) (at u q) (given q))
 
   pub turned-low : (w : Way) (j : ℕ) → Low (b + dearest) (at (turned keep t c n w) j)
-  unfolding turned
   turned-low by-right = one-low (sends keep 0 n) (charge-low 0 (omega arith))
   turned-low by-allowance = one-low (sends keep quarters n) (charge-low quarters (omega arith))
   turned-low unclaimed = one-low (sends keep 0 n) (charge-low 0 (omega arith))

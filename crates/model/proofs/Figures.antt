@@ -13,11 +13,11 @@ use Rattle.model.specs.Figures.{Worked}
 
 -- all that tables and calls compute with
 tables : ℕ
-unfolding at change vacancies total first least greatest chosen stayed turned share departed depart departures
+unfolding at change vacancies total first least greatest chosen stayed share departed depart departures
 tables = 0
 
 calls : ℕ
-unfolding mark-after told joins all-joins settled decide heard turn-after accepted step after
+unfolding mark-after told joins all-joins settled turn-after accepted step after
 calls = 0
 
 pub worked : {C : Type 0} (M : Meaning C) (keep : ℕ) (c : C) → Worked M keep c

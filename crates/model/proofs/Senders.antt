@@ -157,7 +157,6 @@ module _ {C : Type 0} (x : Cell C) (o : Ordered x) where
 
 pub decides : {C : Type 0} (M : Meaning C) → Lawful M → (x : Cell C) (c : ℕ) → Ordered x →
     Rightly (x .table) (at (x .table) c) (decide M x c)
-unfolding decide
 decides M law x c f =
     rightly (x .table) (at (x .table) c) (able (at (x .table) c)) (leads (at (x .table) c)) _ _ _ refl refl
     (law (x .chooser) Credit (offer Credit (x .table)) (sound-offer x f Credit))

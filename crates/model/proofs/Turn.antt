@@ -111,7 +111,6 @@ module _ (keep n : ℕ) (t : Table) (c : ℕ) (P : Option ℕ → Table → Type
     (handed : (q : ℕ) → Handed t c q → P (Some q) (change (change t c (hands-on keep n)) q (takes-up n)))
     (idles : ((j : ℕ) → able (at t j) ≡ false) → P None (change t c (charged keep 0 n))) where
   pub each-way : (w : Way) → Rightly t (at t c) w → P (sender c w) (turned keep t c n w)
-  unfolding turned
   each-way by-right r = alone 0 (omega arith) r
   each-way by-allowance r = alone quarters (omega arith) r
   each-way (by-credit q) r = handed q (record { ready = r .0; apart = apart-credit t c q r; led = r .2 })

@@ -100,14 +100,14 @@ module _ {C : Type 0} (M : Meaning C) where
   changed x place f c = record { cell = settled M x (change (x .table) place f) (x .turns) c; answer = Ok Done }
 
   -- how the turn of the chosen place c goes
-  unfoldable pub decide : Cell C → ℕ → Way
+  abbrev pub decide : Cell C → ℕ → Way
   decide x c =
       way-of (at (x .table) c)
       (M .pick (x .chooser) Credit (offer Credit (x .table)))
       (M .pick (x .chooser) Extra (offer Extra (x .table)))
 
   -- the chooser hears who was served in another's turn
-  unfoldable pub heard : Cell C → Way → ℕ → C
+  abbrev pub heard : Cell C → Way → ℕ → C
   heard x by-right n = x .chooser
   heard x by-allowance n = x .chooser
   heard x (by-credit q) n = M .served (x .chooser) Credit q n (at (x .table) q .price)

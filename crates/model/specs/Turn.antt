@@ -120,7 +120,7 @@ abbrev pub takes-up : ℕ → Session → Session
 takes-up n s = repaid n (popped s)
 
 -- ---- the table after a turn of the chosen c, before departures
-unfoldable pub turned : ℕ → Table → ℕ → ℕ → Way → Table
+abbrev pub turned : ℕ → Table → ℕ → ℕ → Way → Table
 turned keep t c n by-right = change t c (sends keep 0 n)
 turned keep t c n by-allowance = change t c (sends keep quarters n)
 turned keep t c n (by-credit q) = change (change t c (hands-on keep n)) q (takes-up n)

@@ -2,5 +2,6 @@
 mod asks;
 mod changes;
 mod row;
+mod turns;
 
 pub use row::Row;

@@ -19,7 +19,7 @@ use Rattle.model.proofs.Settle.{least-some}
 use Rattle.model.proofs.Share.{least-reached}
 use Rattle.model.proofs.Tables.{at-past}
 use Rattle.model.specs.Session.{Session}
-use Rattle.model.specs.Table.{Table, at, is-none, least, chosen, chosen-at}
+use Rattle.model.specs.Table.{Table, at, is-none, none-active, least, chosen, chosen-at}
 use Rattle.session.specs.Seen.{time-key}
 
 -- ---- the keys of a table
@@ -90,3 +90,11 @@ least-is t = by (least t) refl
         let over = least-some t (c .0) (chosen-next t (c .0) (c .1) .active) in
         let is : v ≡ at t (c .0) .virtual-time = omega (arith, same v (over .0) (sym e ∙ over .1), over .2, low (reached .0) (reached .2), reached .3) in
         e ∙ ap Some is ∙ ap (mapped (λ i. at t i .virtual-time)) (sym (c .1))
+
+none-mapped : (f : ℕ → ℕ) (o : Option ℕ) → is-none (mapped f o) ≡ is-none o
+none-mapped f None = refl
+none-mapped f (Some c) = refl
+
+-- nobody is due exactly when nobody is active
+pub idle-is : (t : Table) → none-active t ≡ is-none (chosen t)
+idle-is t = ap is-none (least-is t) ∙ none-mapped (λ i. at t i .virtual-time) (chosen t)

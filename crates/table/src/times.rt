@@ -5,7 +5,7 @@ ghost use lib.ListN.{getD};
 ghost use Rattle.std.specs.Options.{mapped};
 ghost use Rattle.std.specs.Slices.{found};
 ghost use Rattle.model.specs.Cell.{mark-from};
-ghost use Rattle.model.specs.Table.{chosen, least, greatest};
+ghost use Rattle.model.specs.Table.{is-none, none-active, chosen, least, greatest};
 ghost use Rattle.session.specs.declared.row.Row.{Row};
 ghost use Rattle.table.specs.Places.{table-of};
 use keys::VirtualTime;
@@ -17,6 +17,7 @@ use session::Row;
 pub fn due(rows: &[Row; 64]) -> Option<usize>
     ensures is { λ r. ⌜ r ≡ chosen (table-of (now (rows .entry))) ⌝ }
     ensures inside { λ r. ⌜ found r (λ place. place < 64) ⌝ }
+    ensures idle { λ r. ⌜ is-none r ≡ none-active (table-of (now (rows .entry))) ⌝ }
     ensures soonest {
         λ r. ⌜ ((d : Row) → mapped (λ place. getD (now (rows .entry)) place d .«virtual_time») r ≡
             least (table-of (now (rows .entry)))) ⌝
