@@ -1,4 +1,4 @@
-// Calls, refusals and questions, as far as they go without a turn.
+// Calls, refusals and questions.
 use super::picture::look;
 use answer::Refusal;
 use answer::RefusalDebug;
@@ -42,6 +42,10 @@ fn refused(cell: &mut Cell<LeastServed>, call: Call, number: u8) -> Result<(), F
         Call::Close(place) => cell.close(place),
         Call::Arrive(place, length) => cell.arrive(place, frame(9, length)),
         Call::Report(place, good) => cell.report(place, good),
+        Call::Turn => match cell.turn() {
+            Ok(_) => Ok(()),
+            Err(why) => Err(why),
+        },
     };
     match answer {
         Ok(()) => Err(Fail::new("not refused")),
@@ -58,6 +62,7 @@ enum Call {
     Close(u8),
     Arrive(u8, u16),
     Report(u8, bool),
+    Turn,
 }
 
 #[test]
@@ -247,4 +252,77 @@ fn keeps() -> Result<(), Fail> {
             check_eq(unmade.chooser.count(Line::Credit, 1), Some(3))
         }
     }
+}
+
+#[test]
+fn ahead_of_the_mark() -> Result<(), Fail> {
+    let mut cell = new()?;
+    cell.open(0, 360_360)?;
+    cell.open(1, 240_240)?;
+    cell.arrive(0, frame(1, 100))?;
+    cell.arrive(1, frame(2, 100))?;
+    cell.turn()?;
+    let session = cell.session(0)?;
+    check(!session.active)?;
+    check_eq(session.virtual_time, 200)?;
+    check_eq(cell.mark(), 0)?;
+    refused(&mut cell, Call::Close(0), 11)?;
+    cell.turn()?;
+    check_eq(cell.mark(), 300)?;
+    cell.close(0)?;
+    refused(&mut cell, Call::Turn, 14)
+}
+
+#[test]
+fn a_quiet_spell_gains_nothing() -> Result<(), Fail> {
+    let mut cell = new()?;
+    cell.open(0, 360_360)?;
+    cell.open(1, 1)?;
+    filled(&mut cell, 0, 2)?;
+    cell.turn()?;
+    check_eq(cell.mark(), 200)?;
+    cell.arrive(1, frame(9, 1))?;
+    check_eq(cell.session(1)?.virtual_time, 200)?;
+    cell.turn()?;
+    cell.turn()?;
+    check(!cell.session(1)?.active)?;
+    check_eq(cell.mark(), 720_920)?;
+    cell.arrive(0, frame(3, 1))?;
+    check_eq(cell.session(0)?.virtual_time, 720_920)
+}
+
+#[test]
+fn closing_sheds_no_virtual_time() -> Result<(), Fail> {
+    let mut cell = new()?;
+    cell.open(0, 1)?;
+    filled(&mut cell, 0, 1)?;
+    cell.turn()?;
+    check_eq(cell.mark(), 72_072_000)?;
+    cell.close(0)?;
+    check_eq(cell.mark(), 72_072_000)?;
+    cell.open(0, 720_720)?;
+    check_eq(cell.session(0)?.virtual_time, 0)?;
+    cell.arrive(0, frame(1, 1))?;
+    check_eq(cell.session(0)?.virtual_time, 72_072_000)
+}
+
+#[test]
+fn joins_are_told_with_those_who_stayed() -> Result<(), Fail> {
+    let mut cell = new()?;
+    cell.open(0, 360_360)?;
+    cell.open(1, 180_180)?;
+    cell.arrive(0, frame(1, 100))?;
+    cell.arrive(1, frame(2, 10))?;
+    cell.arrive(1, frame(3, 10))?;
+    cell.report(0, false)?;
+    cell.turn()?;
+    check_eq(cell.session(0)?.lag, 10)?;
+    check_eq(cell.session(1)?.lag, -10)?;
+    check_eq(cell.chooser().count(Line::Extra, 1), Some(40))?;
+    cell.open(2, 1)?;
+    check_eq(cell.chooser().count(Line::Extra, 2), Some(0))?;
+    cell.arrive(2, frame(4, 5))?;
+    check_eq(cell.chooser().count(Line::Extra, 2), Some(40))?;
+    cell.report(0, true)?;
+    check_eq(cell.chooser().count(Line::Credit, 0), Some(0))
 }

@@ -19,22 +19,27 @@ use Rattle.table.proofs.times.due.Needs as need
 
 pub loop-place-again : need.loop-place-again
 loop-place-again c =
-    let rows = c .args .rows .now in (
+    let rows = c .args .rows .now in
+    let place = c .loop-place .place in
+    (
       simp length-set (c .loop-place .inv .0),
-      built-more (c .loop-place .keys) (map time-key (table-of rows)) (c .loop-place .place) _ None (omega arith) (omega (arith, length-made time-key rows))
-          (c .loop-place .inv .1) (c .key .ensures ∙ sym (getD-made time-key rows (c .loop-place .place) _ None (omega arith))),
+      built-more (c .loop-place .keys) (map time-key (table-of rows)) place _ None (omega arith) (omega (arith, length-made time-key rows))
+          (c .loop-place .inv .1) (c .key .ensures ∙ sym (getD-made time-key rows place _ None (omega arith))),
     )
 
 pub returns : need.returns
 returns c =
     let rows = c .args .rows .now in
-    let keys = built-all (c .loop-place .keys) (map time-key (table-of rows)) (c .loop-place .place) (omega arith) (omega (arith, length-made time-key rows)) (c .loop-place .inv .1) in
-    let is = search-is (table-of rows) (c .least .result) (subst (λ ks. Least time-before ks (c .least .result)) keys (c .least .ensures .least)) in
+    let r = c .least .result in
+    let wanted = map time-key (table-of rows) in
+    let keys = built-all (c .loop-place .keys) wanted (c .loop-place .place) (omega arith) (omega (arith, length-made time-key rows)) (c .loop-place .inv .1) in
+    let is = search-is (table-of rows) r (subst (λ ks. Least time-before ks r) keys (c .least .ensures .least)) in
     let size = length-table rows ∙ c .told-rows in
-    let inside = subst (λ n. found (c .least .result) (λ i. i < n)) size (chosen-inside (table-of rows) (c .least .result) is) in
+    let inside = subst (λ n. found r (λ i. i < n)) size (chosen-inside (table-of rows) r is) in
+    let time = mapped (λ (i : ℕ). at (table-of rows) i .virtual-time) in
     record {
       is = is;
       inside = inside;
       idle = ap is-none is ∙ sym (idle-is (table-of rows));
-      soonest = λ d. times-read rows d (c .least .result) (c .told-rows) inside ∙ sym (least-is (table-of rows) ∙ ap (mapped (λ (i : ℕ). at (table-of rows) i .virtual-time)) (sym is));
+      soonest = λ d. times-read rows d r (c .told-rows) inside ∙ ap time is ∙ sym (least-is (table-of rows));
     }
