@@ -1,8 +1,9 @@
 // What a turn adds to the numbers of a session, and takes from them. Whoever calls sees to it that they are small enough.
-ghost use Rattle.std.specs.Prelude.{◌≡◌, ◌*◌, ◌^◌, ◌<◌, ◌≤◌, nat_abs};
+ghost use Rattle.std.specs.Prelude.{◌≡◌, cond, ◌*◌, ◌^◌, ◌<◌, ◌≤◌, pos, nat_abs, ◌+ℤ◌, ◌-ℤ◌};
 ghost use Rattle.chooser.specs.Offers.{lag_bound};
 ghost use Rattle.model.specs.Limits.{quarters, furthest};
-ghost use Rattle.model.specs.Turn.{allowed, charged, owed, repaid};
+ghost use Rattle.model.specs.Session.{leads};
+ghost use Rattle.model.specs.Turn.{charged, owed, repaid};
 ghost use Rattle.session.specs.Seen.{seen};
 
 use session::Row;
@@ -39,7 +40,7 @@ fn allowance(row: &Row, earned: u64, spent: u64) -> i64
     requires earned { earned < 2 ^ 56 }
     requires spent { spent < 2 ^ 56 }
     requires allowance { nat_abs (seen row.now).allowance ≤ quarters * furthest }
-    ensures { result ≡ allowed earned spent (seen row.now) }
+    ensures { result ≡ cond (leads (seen row.now)) ((seen row.now).allowance +ℤ pos earned -ℤ pos spent) (seen row.now).allowance }
 {
     if row.leads() {
         row.allowance + earned as i64 - spent as i64

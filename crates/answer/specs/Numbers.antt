@@ -1,10 +1,7 @@
 -- The number of each refusal, by which crews, recordings and documents name it.
 use Rattle.std.specs.Prelude.{ℕ}
 use Rattle.answer.specs.declared.refusal.Refusal.{Refusal}
-use Rattle.answer.specs.declared.refusal.Refusal.TheVariants.{TruncatedRecord, UnknownLetter, UnusedByteNotZero, NoteNotPrintable}
-use Rattle.answer.specs.declared.refusal.Refusal.TheVariants.{PlaceTooHigh, PlaceOpen, PlaceNotOpen, RateNotInTariff, LinkOverbooked}
-use Rattle.answer.specs.declared.refusal.Refusal.TheVariants.{SessionActive, AheadOfMark, LengthOutOfRange, QueueFull}
-use Rattle.answer.specs.declared.refusal.Refusal.TheVariants.{NoneActive, TurnsUsedUp, KeepTooHigh, BufferTooShort}
+use Rattle.answer.specs.declared.refusal.Refusal.TheVariants.{TruncatedRecord, UnknownLetter, UnusedByteNotZero, NoteNotPrintable, PlaceTooHigh, PlaceOpen, PlaceNotOpen, RateNotInTariff, LinkOverbooked, SessionActive, AheadOfMark, LengthOutOfRange, QueueFull, NoneActive, TurnsUsedUp, KeepTooHigh, BufferTooShort}
 
 abbrev pub number_of : Refusal → ℕ
 number_of TruncatedRecord = 1

@@ -1,4 +1,6 @@
 // What a call answers: an answer or a refusal, and through a record the whole fault.
+#![tactic(auto)]
+
 mod fault;
 mod refusal;
 mod turn;

@@ -1,8 +1,7 @@
-pub mod Meant
 pub mod Offering
 pub mod Rows
 pub mod Steps
 pub mod Telling
 pub mod Turning
-pub mod Joining
+pub mod Asking
 pub mod Passing

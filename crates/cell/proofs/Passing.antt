@@ -1,7 +1,6 @@
 -- A turn that is accepted: what the books say of it before, in its midst and after it.
-use Rattle.std.proofs.Common.{◌≡◌, ℕ, ◌+◌, ◌<◌, Bool, true, false, cond, leb, IfSome, IsErrAnd, Some, None, Ok, Err, Option, Result, sym, refl, ap, ◌∙◌, subst, arith}
+use Rattle.std.proofs.Common.{◌≡◌, ℕ, ◌+◌, ◌<◌, Bool, true, false, cond, leb, IfSome, Some, None, Ok, Option, sym, refl, ap, ◌∙◌, subst, arith}
 use Rattle.std.proofs.lemmas.Bool.{lt-leb, leb-false}
-use Rattle.answer.specs.declared.refusal.Refusal.{Refusal}
 use Rattle.answer.specs.declared.refusal.Refusal.TheVariants.{NoneActive, TurnsUsedUp}
 use Rattle.answer.specs.declared.turn.Answer.TheVariants.{Turn as Turned}
 use Rattle.answer.specs.declared.turn.Turn.{Turn}
@@ -13,8 +12,7 @@ use Rattle.model.specs.Limits.{most_turns}
 use Rattle.model.specs.Meaning.{Meaning, Lawful}
 use Rattle.model.specs.Sound.{Midway, Sound, InOrder}
 use Rattle.model.specs.Table.{Table, at, change, is_none, none_active, chosen}
-use Rattle.model.specs.Turn.{Way, by_right, by_allowance, by_credit, unclaimed, by_extra, idle}
-use Rattle.model.specs.Turn.{sender, length_of, answer_of, hands_on, takes_up, turned}
+use Rattle.model.specs.Turn.{Way, by_right, by_allowance, by_credit, unclaimed, by_extra, idle, sender, length_of, answer_of, sends, charged, hands_on, takes_up, turned}
 use Rattle.model.proofs.Books.{ordered_of, step_sound}
 use Rattle.model.proofs.Chosen.{chosen_next, chosen_some}
 use Rattle.model.proofs.Tables.{change_same}
@@ -25,10 +23,10 @@ use Rattle.table.proofs.Dues.{idle_is}
 use Rattle.cell.specs.Found.{Offerable}
 use Rattle.cell.specs.Plans.{unless}
 use Rattle.cell.specs.Room.{HasRoom}
-use Rattle.cell.specs.Turns.{Accepted, turned_as}
+use Rattle.cell.specs.Turns.{Accepted}
 use Rattle.cell.specs.Ways.{handed_to, only}
 use Rattle.cell.proofs.Offering.{offerable}
-use Rattle.cell.proofs.Steps.{planned, not_planned, returned, refuses}
+use Rattle.cell.proofs.Steps.{planned}
 
 -- ---- ways
 
@@ -56,15 +54,12 @@ other t c (by_extra q) r = apart_extra t c q r
 other t c idle r = tt
 
 -- no turn changes a price
-pair_price : (keep n : ℕ) (t : Table) (c q j : ℕ) →
-    (at (change (change t c (hands_on keep n)) q (takes_up n)) j).price ≡ (at t j).price
+pair_price : (keep n : ℕ) (t : Table) (c q j : ℕ) → (at (change (change t c (hands_on keep n)) q (takes_up n)) j).price ≡ (at t j).price
 pair_price keep n t c q j =
-    change_same (λ s. s.price) (change t c (hands_on keep n)) q (takes_up n) (λ s. refl) j
-    ∙ change_same (λ s. s.price) t c (hands_on keep n) (λ s. refl) j
+    change_same (λ s. s.price) (change t c (hands_on keep n)) q (takes_up n) (λ s. refl) j ∙ change_same (λ s. s.price) t c (hands_on keep n) (λ s. refl) j
 
 -- so it may be told after the turn who was served, as well as before it
-heard_after : {C : Type 0} (M : Meaning C) (ch : C) (keep n : ℕ) (t : Table) (c : ℕ) (w : Way) →
-    heard M (only ch (turned keep t c n w)) w n ≡ heard M (only ch t) w n
+pub heard_after : {C : Type 0} (M : Meaning C) (ch : C) (keep n : ℕ) (t : Table) (c : ℕ) (w : Way) → heard M (only ch (turned keep t c n w)) w n ≡ heard M (only ch t) w n
 heard_after M ch keep n t c by_right = refl
 heard_after M ch keep n t c by_allowance = refl
 heard_after M ch keep n t c (by_credit q) = ap (M.served ch _ q n) (pair_price keep n t c q q)
@@ -92,24 +87,14 @@ module _ {C : Type 0} (x : Cell C) (c : ℕ) (e : Ok c ≡ unless (refusal x tur
       let s = chosen_some x.table passes.0 in
       s.1 ∙ ap Some (sym ((planned (refusal x turn) (found (chosen x.table)) c e).1 ∙ ap found s.1))
 
--- a refused turn answers why, and leaves the cell as it was
-pub turn_refused : {C : Type 0} (M : Meaning C) (x : Cell C) (why : Refusal) →
-    Err why ≡ unless (refusal x turn) (found (chosen x.table)) → (r : Result Turn Refusal) → IsErrAnd r (λ y. y ≡ why) →
-    record { answer : turned_as r ≡ (step M x turn).answer; after : x ≡ (step M x turn).cell }
-turn_refused M x why e r by =
-    let o = refuses M x turn why (not_planned (refusal x turn) (found (chosen x.table)) why e) in
-    record {
-      answer = ap turned_as (returned r why by) ∙ sym (ap (λ (o : Outcome M). o.answer) o);
-      after = sym (ap (λ (o : Outcome M). o.cell) o);
-    }
-
 -- a turn that nothing refuses is accepted
-abbrev pub turn_accepted : {C : Type 0} (x : Cell C) (c : ℕ) →
-    Ok c ≡ unless (refusal x turn) (found (chosen x.table)) → Sound x → Accepted x.keep x.mark x.table c
+abbrev pub turn_accepted : {C : Type 0} (x : Cell C) (c : ℕ) → Ok c ≡ unless (refusal x turn) (found (chosen x.table)) → Sound x → Accepted x.keep x.mark x.table c
 turn_accepted x c e b = record { turns = x.turns; left = turn_left x c e; books = b; next = turn_next x c e }
 
--- what its books say of a table whose next turn is accepted
-module _ {keep mark : ℕ} {t : Table} {c : ℕ} (a : Accepted keep mark t c) where
+module _ {C : Type 0} (M : Meaning C) (law : Lawful M) (keep mark : ℕ) (t : Table) (ch : C) (c : ℕ) (a : Accepted keep mark t c) where
+  abbrev cell : Cell C
+  cell = record { keep = keep; mark = mark; turns = a.turns; table = t; chooser = ch }
+
   pub chosen_inside : c < 64
   chosen_inside = omega (arith, (chosen_next t c a.next).inside, a.books.size)
 
@@ -122,11 +107,6 @@ module _ {keep mark : ℕ} {t : Table} {c : ℕ} (a : Accepted keep mark t c) wh
       let left = a.left in
       record { time = omega (arith, o.early); allowance = omega (arith, o.modest); lag = omega (arith, lag_low a.books j) }
 
--- the turn of a cell with that table and a chooser
-module _ {C : Type 0} (M : Meaning C) (law : Lawful M) {keep mark : ℕ} {t : Table} (ch : C) {c : ℕ} (a : Accepted keep mark t c) where
-  abbrev cell : Cell C
-  cell = record { keep = keep; mark = mark; turns = a.turns; table = t; chooser = ch }
-
   -- a turn that is not refused
   goes : refusal cell turn ≡ None
   goes =
@@ -138,34 +118,30 @@ module _ {C : Type 0} (M : Meaning C) (law : Lawful M) {keep mark : ℕ} {t : Ta
   unfolding step accepted
   turn_is = ap (outcome M cell turn) goes ∙ ap (λ (o : Option ℕ). turn_of M cell (found o)) a.next
 
-  -- what it answers and leaves: the answer r, the table u, the mark m and the chooser d
-  module _ (r : Turn) (answered : r ≡ answer_of t c (decide M (only ch t) c)) {u : Table} {m : ℕ} {d : C}
-      (e : u ≡ departures (turned keep t c r.length (decide M (only ch t) c))) (p : m ≡ mark_after mark t u)
-      (q : d ≡ all_joins M t u (heard M (only ch t) (decide M (only ch t) c) r.length)) where
-    abbrev next : Cell C
-    next = record { keep = keep; mark = m; turns = a.turns + 1; table = u; chooser = d }
+  -- what it answers and leaves
+  pub answer_is : (r : Turn) → r ≡ answer_of t c (decide M (only ch t) c) → Ok (Turned r) ≡ (step M cell turn).answer
+  answer_is r e = ap (λ (r : Turn). Ok (Turned r)) e ∙ sym (ap (λ (o : Outcome M). o.answer) turn_is)
 
-    next_is : next ≡ (step M cell turn).cell
-    unfolding turn_after settled
-    next_is =
-        (λ i. record { keep = keep; mark = p i; turns = a.turns + 1; table = u; chooser = q i })
-        ∙ ap (λ (v : Table). settled M cell v (a.turns + 1) (heard M (only ch t) (decide M (only ch t) c) r.length)) e
-        ∙ ap (λ (r : Turn). turn_after M cell c (decide M cell c) r.length) answered
-        ∙ sym (ap (λ (o : Outcome M). o.cell) turn_is)
+  pub cell_is : (r : Turn) (u : Table) (m : ℕ) (d : C) → r ≡ answer_of t c (decide M (only ch t) c) →
+      u ≡ departures (turned keep t c r.length (decide M (only ch t) c)) → m ≡ mark_after mark t u →
+      d ≡ all_joins M t u (heard M (only ch t) (decide M (only ch t) c) r.length) →
+      ◌≡◌ {A = Cell C} (record { keep = keep; mark = m; turns = a.turns + 1; table = u; chooser = d }) (step M cell turn).cell
+  unfolding turn_after settled
+  cell_is r u m d answered e p q =
+      (λ i. record { keep = keep; mark = p i; turns = a.turns + 1; table = u; chooser = q i })
+      ∙ ap (λ (v : Table). settled M cell v (a.turns + 1) (heard M (only ch t) (decide M (only ch t) c) r.length)) e
+      ∙ ap (λ (r : Turn). turn_after M cell c (decide M cell c) r.length) answered
+      ∙ sym (ap (λ (o : Outcome M). o.cell) turn_is)
 
-    pub turn_done : record { answer : Ok (Turned r) ≡ (step M cell turn).answer; after : next ≡ (step M cell turn).cell }
-    turn_done = record {
-      answer = ap (λ (r : Turn). Ok (Turned r)) answered ∙ sym (ap (λ (o : Outcome M). o.answer) turn_is);
-      after = next_is;
-    }
-
-    pub in_order : InOrder keep m (a.turns + 1) u
-    in_order =
-        subst (λ (y : Cell C). InOrder y.keep y.mark y.turns y.table) (sym next_is)
-        ∣ step_sound M law cell turn a.books ∣₁
+  pub in_order : (r : Turn) (u : Table) (m : ℕ) (d : C) → r ≡ answer_of t c (decide M (only ch t) c) →
+      u ≡ departures (turned keep t c r.length (decide M (only ch t) c)) → m ≡ mark_after mark t u →
+      d ≡ all_joins M t u (heard M (only ch t) (decide M (only ch t) c) r.length) →
+      InOrder keep m (a.turns + 1) u
+  in_order r u m d answered e p q =
+      subst (λ (y : Cell C). InOrder y.keep y.mark y.turns y.table) (sym (cell_is r u m d answered e p q)) ∣ step_sound M law cell turn a.books ∣₁
 
   -- the way that the turn goes, and the table that it leaves before departures
-  module _ {w : Way} (is : w ≡ decide M (only ch t) c) where
+  module _ (w : Way) (is : w ≡ decide M (only ch t) c) where
     pub sender_inside : IfSome (sender c w) (λ q. q < 64)
     sender_inside = of_found (sender c w) (λ q e. turn_sender M law cell a.books c a.next q (ap (sender c) (sym is) ∙ e))
 
@@ -176,24 +152,15 @@ module _ {C : Type 0} (M : Meaning C) (law : Lawful M) {keep mark : ℕ} {t : Ta
     handed_other =
         other t c w (subst (Rightly t (at t c)) (sym is) (decides M law cell c (ordered_of cell a.books)))
 
-    module _ {r : Turn} (answered : r ≡ answer_of t c w) where
+    module _ (r : Turn) (answered : r ≡ answer_of t c w) where
       left : turned keep t c r.length w ≡ turned keep t c (length_of t (sender c (decide M (only ch t) c))) (decide M (only ch t) c)
-      left =
-          ap (λ (r : Turn). turned keep t c r.length w) answered
-          ∙ ap (λ (w : Way). turned keep t c (length_of t (sender c w)) w) is
+      left = ap (λ (r : Turn). turned keep t c r.length w) answered ∙ ap (λ (w : Way). turned keep t c (length_of t (sender c w)) w) is
 
-      pub midway : {u : Table} → u ≡ turned keep t c r.length w → Midway lag_bound u
-      midway e = subst (Midway lag_bound) (sym (e ∙ left)) (turn_midway M law cell a.books c a.next a.left)
+      pub midway : (u : Table) → u ≡ turned keep t c r.length w → Midway lag_bound u
+      midway u e = subst (Midway lag_bound) (sym (e ∙ left)) (turn_midway M law cell a.books c a.next a.left)
 
-      pub can_offer_after : {u v : Table} → u ≡ turned keep t c r.length w → v ≡ departures u → Offerable v
+      pub can_offer_after : (u v : Table) → u ≡ turned keep t c r.length w → v ≡ departures u → Offerable v
       unfolding turn_after settled
-      can_offer_after e d =
+      can_offer_after u v e d =
           let is_left = ap (λ (o : Outcome M). o.cell.table) turn_is in
           subst Offerable (is_left ∙ sym (d ∙ ap departures (e ∙ left))) (offerable (step_sound M law cell turn a.books))
-
-      -- what the chooser has heard by then
-      pub heard_then : {u : Table} {d : C} → u ≡ turned keep t c r.length w → d ≡ heard M (only ch u) w r.length →
-          d ≡ heard M (only ch t) (decide M (only ch t) c) r.length
-      heard_then e h =
-          h ∙ ap (λ (v : Table). heard M (only ch v) w r.length) e ∙ heard_after M ch keep r.length t c w
-          ∙ ap (λ (w : Way). heard M (only ch t) w r.length) is

@@ -23,6 +23,4 @@ put_row rows i place row e n l =
 pub table_vacant : (n : ℕ) (row : Row) → seen row ≡ vacant → table_of (replicate n row) ≡ vacancies n
 unfolding table_of vacancies
 table_vacant zero row e = refl
-table_vacant (suc n) row e =
-    ap (λ (s : Session). s ∷ table_of (replicate n row)) e
-    ∙ ap (λ (t : Table). vacant ∷ t) (table_vacant n row e)
+table_vacant (suc n) row e = ap (λ (s : Session). s ∷ table_of (replicate n row)) e ∙ ap (λ (t : Table). vacant ∷ t) (table_vacant n row e)

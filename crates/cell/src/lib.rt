@@ -1,10 +1,11 @@
 // A radio cell of 64 places under one schedule, over any chooser.
+#![tactic(auto)]
+
 mod asks;
 mod before;
 mod calls;
 mod decide;
 mod leave;
-mod offers;
 mod plans;
 mod put;
 mod send;

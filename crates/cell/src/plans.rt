@@ -43,8 +43,7 @@ impl<C> Cell<C> {
     }
 
     pub(crate) fn opening(&self, place: u8, rate: u32) -> Result<Row, Refusal>
-        ensures { sessions result ≡
-            plan (view self.now) (opening place rate) (fresh rate (price_of rate)) }
+        ensures { sessions result ≡ plan (view self.now) (opening place rate) (fresh rate (price_of rate)) }
     {
         if place >= PLACES {
             return Err(Refusal::PlaceTooHigh);

@@ -27,8 +27,7 @@ pub(crate) fn carry_out(rows: &mut [Row; 64], keep: u8, chosen: usize, way: Way)
     requires other { IfSome (handed_to (way_as way)) (λ q. chosen ≢ q) }
     requires room { (j : ℕ) → HasRoom (at (table_of rows.old) j) }
     ensures answer { result ≡ answer_of (table_of rows.old) chosen (way_as way) }
-    ensures after { table_of rows.new ≡
-        turned keep (table_of rows.old) chosen result.length (way_as way) }
+    ensures after { table_of rows.new ≡ turned keep (table_of rows.old) chosen result.length (way_as way) }
 {
     match way {
         Way::ByRight => own_turn(rows, keep, 0, chosen, Kind::Normal),
@@ -45,8 +44,7 @@ fn own_turn(rows: &mut [Row; 64], keep: u8, spent: u8, chosen: usize, kind: Kind
     requires chosen { chosen < 64 }
     requires room { (j : ℕ) → HasRoom (at (table_of rows.old) j) }
     ensures answer { result ≡ turn_from (table_of rows.old) chosen (Some chosen) kind }
-    ensures after { table_of rows.new ≡
-        change (table_of rows.old) chosen (sends keep spent result.length) }
+    ensures after { table_of rows.new ≡ change (table_of rows.old) chosen (sends keep spent result.length) }
 {
     let (frame, row) = account(rows, chosen).send(keep, spent);
     rows[chosen] = row;
@@ -60,9 +58,7 @@ fn handed_turn(rows: &mut [Row; 64], keep: u8, chosen: usize, sender: usize, kin
     requires other { chosen ≢ sender }
     requires room { (j : ℕ) → HasRoom (at (table_of rows.old) j) }
     ensures answer { result ≡ turn_from (table_of rows.old) chosen (Some sender) kind }
-    ensures after { table_of rows.new ≡
-        change (change (table_of rows.old) chosen (hands_on keep result.length))
-        sender (takes_up result.length) }
+    ensures after { table_of rows.new ≡ change (change (table_of rows.old) chosen (hands_on keep result.length)) sender (takes_up result.length) }
 {
     let (frame, row) = account(rows, sender).take_up();
     rows[chosen] = account(rows, chosen).hand_on(keep, frame.length);
@@ -75,8 +71,7 @@ fn idle_turn(rows: &mut [Row; 64], keep: u8, chosen: usize) -> Turn
     requires chosen { chosen < 64 }
     requires room { (j : ℕ) → HasRoom (at (table_of rows.old) j) }
     ensures answer { result ≡ turn_from (table_of rows.old) chosen None Kind.Idle }
-    ensures after { table_of rows.new ≡
-        change (table_of rows.old) chosen (charged keep 0 result.length) }
+    ensures after { table_of rows.new ≡ change (table_of rows.old) chosen (charged keep 0 result.length) }
 {
     rows[chosen] = account(rows, chosen).idle(keep, IDLE_LENGTH);
     unsent(chosen)

@@ -1,36 +1,33 @@
 // What every accepted call does last: the mark follows the table, and the chooser hears who joined a list.
 ghost use Rattle.std.specs.Prelude.{◌≡◌};
 ghost use Rattle.model.specs.Cell.{joins};
+ghost use Rattle.model.specs.Lists.{stayed};
 ghost use Rattle.model.specs.Meaning.{meaning};
 ghost use Rattle.cell.specs.Found.{Offerable, mark_left, joins_left};
 ghost use Rattle.table.specs.Places.{table_of};
 
 use super::before::Before;
-use super::offers::offer_stayed;
-use chooser::{Chooser, Line};
+use chooser::{Chooser, Line, Offer};
 use session::Row;
-use table::{anybody_joined, mark_after};
+use table::{mark_after, stayed};
 
-// Tells who joined a list. In most calls nobody does, and then no offer is made.
-fn tell<C: Chooser>(chooser: &mut C, line: Line, rows: &[Row; 64], before: &[bool; 64])
+// The offer of those who stood in a list before and still do.
+pub(crate) fn offer(rows: &[Row; 64], line: Line, before: &[bool; 64]) -> Offer
     requires { Offerable (table_of rows.now) }
-    ensures { chooser.new ≡
-        joins (meaning pick after_served after_joined after_cleared) line before.now
-        (table_of rows.now) chooser.old }
+    ensures { result.entries ≡ stayed line before.now (table_of rows.now) }
 {
-    if anybody_joined(rows, line, before) {
-        tell_each(chooser, line, rows, before);
-    }
+    let entries = stayed(rows, line, before);
+    Offer { entries }
 }
 
 // Tells of each place that is in a list now and was not, in ascending place.
-fn tell_each<C: Chooser>(chooser: &mut C, line: Line, rows: &[Row; 64], before: &[bool; 64])
+pub(crate) fn tell<C: Chooser>(chooser: &mut C, line: Line, rows: &[Row; 64], before: &[bool; 64])
     requires { Offerable (table_of rows.now) }
     ensures { chooser.new ≡
         joins (meaning pick after_served after_joined after_cleared) line before.now
         (table_of rows.now) chooser.old }
 {
-    let stay = offer_stayed(rows, line, before);
+    let stay = offer(rows, line, before);
     for i in 0..64usize {
         if !before[i] & rows[i].stands_in(line) {
             chooser.joined(line, i, &stay);

@@ -1,4 +1,6 @@
 // The cell and its queues on cases.
+#![tactic(auto)]
+
 #[cfg(test)]
 mod picture;
 #[cfg(test)]

@@ -1,13 +1,18 @@
 // Plays a recording into a cell, and prints the line of each record.
+#![tactic(auto)]
+
 use answer::{Answer, Fault, Refusal};
 use cell::Cell;
 use chooser::Chooser;
 use least_served::LeastServed;
-use record::{fault_line, line};
+use record::{fault_line, line, read};
 use recording::fill;
-use replay::{KEEP, Played, play_record};
+use replay::apply;
 use std::io;
 use std::io::{BufReader, BufWriter, Read, Write};
+
+// What a leading session keeps of its own turns, in quarters.
+const KEEP: u8 = 2;
 
 // The cell's answer, as a line shows it.
 fn shown(res: Result<Answer, Fault>) -> Result<Answer, Refusal> {
@@ -27,14 +32,15 @@ fn play<C: Chooser, R: Read, W: Write>(
     let mut text = [0u8; 64];
     for number in 1..recording::RECORDS + 1 {
         let n = fill(reader, &mut bytes)?;
-        match play_record(cell, &bytes[0..n], number) {
-            Played::Ended => break,
-            Played::Asked(event, result) => {
-                if let Ok(end) = line(number, event, shown(result), &mut text) {
+        match read(&bytes[0..n], number) {
+            Ok(None) => break,
+            Ok(Some((event, _))) => {
+                let result = shown(apply(cell, event, number));
+                if let Ok(end) = line(number, event, result, &mut text) {
                     out.write_all(&text[0..end])?;
                 }
             }
-            Played::Unread(fault) => {
+            Err(fault) => {
                 if let Ok(end) = fault_line(number, fault.refusal, &mut text) {
                     out.write_all(&text[0..end])?;
                 }

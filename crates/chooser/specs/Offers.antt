@@ -1,9 +1,8 @@
--- An offer is 64 entries, one for each place. An offered entry has a booked rate, its price, and a lag that the turns of a
--- cell can bring about; any other entry is idle.
+-- An offer is 64 entries, one for each place. An offered entry has a booked rate, its price, and a lag that is
+-- within what two thousand million turns of 1,536 bytes can bring about; any other entry is idle.
 use Rattle.std.specs.Prelude.{◌≡◌, ℕ, ◌*◌, Bool, true, false, cond, ◌&&◌, List, [], ◌∷◌, length, get_or, replicate, ℤ, pos, Some, None, Option, ◌==◌, nat_le, nat_lt, slice_index_or, slice_set, unsigned_abs}
 use Rattle.tariff.specs.Tariff.{link}
 use Rattle.chooser.specs.declared.entry.Entry.{Entry}
-use Rattle.chooser.specs.Limits.{places, longest, most_turns}
 
 -- the entry of a place that is not offered
 abbrev pub idle : Entry
@@ -12,9 +11,9 @@ idle = record { offered = false; lag = pos 0; rate = 1; price = link }
 abbrev pub offered : ℤ → ℕ → ℕ → Entry
 offered lag rate price = record { offered = true; lag = lag; rate = rate; price = price }
 
--- how far a lag may be from 0: 3,072,000,000,000 bytes, the longest frame in every turn
+-- how far a lag may be from 0
 abbrev pub lag_bound : ℕ
-lag_bound = longest * most_turns
+lag_bound = 3072000000000
 
 abbrev pub is_idle : Entry → Bool
 is_idle e = unsigned_abs e.lag == 0 && (e.rate == 1 && e.price == link)
@@ -30,20 +29,20 @@ all_sound [] = true
 all_sound (e ∷ es) = sound_entry e && all_sound es
 
 abbrev pub sound : List Entry → Bool
-sound es = length es == places && all_sound es
+sound es = length es == 64 && all_sound es
 
 -- the offer of nobody
 abbrev pub nobody : List Entry
-nobody = replicate places idle
+nobody = replicate 64 idle
 
 -- the entry of one of the 64 places
 abbrev pub entry_at : List Entry → ℕ → Option Entry
-entry_at es place = cond (nat_lt place places) (Some (slice_index_or es place idle)) None
+entry_at es place = cond (nat_lt place 64) (Some (slice_index_or es place idle)) None
 
 -- a place is offered; a place above 63 and a lag past the bound change nothing
 abbrev pub with_offered : List Entry → ℕ → ℤ → ℕ → ℕ → List Entry
 with_offered es place lag rate price =
-    cond (nat_lt place places && nat_le (unsigned_abs lag) lag_bound) (slice_set es place (offered lag rate price)) es
+    cond (nat_lt place 64 && nat_le (unsigned_abs lag) lag_bound) (slice_set es place (offered lag rate price)) es
 
 abbrev pub offered_at : List Entry → ℕ → Bool
 offered_at es place = (get_or es place idle).offered

@@ -1,4 +1,6 @@
 // Who gets a turn that its owner cannot use.
+#![tactic(auto)]
+
 ghost use Rattle.std.specs.Prelude.{◌≡◌, ℕ, Option as Maybe};
 ghost use Rattle.chooser.specs.declared.entry.Line.{Line as TheLine};
 ghost use Rattle.chooser.specs.declared.offer.Offer.{Offer as TheOffer};

@@ -1,4 +1,6 @@
 // The choosers on cases, and code that is written for every chooser.
+#![tactic(auto)]
+
 ghost use Rattle.std.specs.Prelude.{◌≡◌, slice_set};
 ghost use Rattle.chooser.specs.Offers.{idle};
 

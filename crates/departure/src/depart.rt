@@ -4,8 +4,9 @@ ghost use Rattle.chooser.specs.Offers.{lag_bound};
 ghost use Rattle.tariff.specs.Tariff.{link};
 ghost use Rattle.model.specs.Departures.{gone, departed, departures};
 ghost use Rattle.model.specs.Session.{above_zero};
-ghost use Rattle.model.specs.Table.{at, change, booked_total, owing};
+ghost use Rattle.model.specs.Table.{at, change, booked_total};
 ghost use Rattle.table.specs.Places.{table_of};
+ghost use Rattle.departure.specs.Owing.{owing};
 
 use super::midway::Midway;
 use super::share::share;

@@ -2,7 +2,8 @@
 ghost use Rattle.std.specs.Prelude.{◌≤◌};
 ghost use Rattle.chooser.specs.Offers.{lag_bound};
 ghost use Rattle.tariff.specs.Tariff.{link};
-ghost use Rattle.model.specs.Table.{booked_total, owing};
+ghost use Rattle.model.specs.Table.{booked_total};
+ghost use Rattle.departure.specs.Owing.{owing};
 ghost use Rattle.table.specs.Places.{table_of};
 
 use session::Row;

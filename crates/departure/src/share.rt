@@ -4,10 +4,11 @@ ghost use Rattle.chooser.specs.Offers.{lag_bound};
 ghost use Rattle.tariff.specs.Tariff.{link};
 ghost use Rattle.model.specs.Departures.{active_rate, part as part_of, share as shared};
 ghost use Rattle.model.specs.Session.{above_zero};
-ghost use Rattle.model.specs.Table.{total, owing};
+ghost use Rattle.model.specs.Table.{total};
 ghost use Rattle.model.specs.Turn.{owed};
 ghost use Rattle.session.specs.Seen.{seen};
 ghost use Rattle.table.specs.Places.{table_of};
+ghost use Rattle.departure.specs.Owing.{owing};
 
 use session::Row;
 

@@ -1,16 +1,13 @@
 -- Every worked figure, in one statement about the definitions that the contracts cite.
-use Rattle.std.specs.Prelude.{◌≡◌, List, ◌∷◌, take, replicate, pos, Some}
+use Rattle.std.specs.Prelude.{◌≡◌, ℕ, List, [], ◌∷◌, take, replicate, pos, Some}
 use Rattle.chooser.specs.declared.entry.Entry.{Entry}
 use Rattle.chooser.specs.Offers.{idle, offered}
 use Rattle.largest_debt.specs.Largest.{debt_at, largest_debt}
 use Rattle.tariff.specs.Tariff.{price_of}
-use Rattle.least_served.specs.declared.counts.LeastServed.{LeastServed}
-use Rattle.model.specs.Cell.{Cell}
 use Rattle.model.specs.Table.{at}
 use Rattle.model.specs.History.{after}
 use Rattle.model.specs.Figures.{FiguresStand}
-use Rattle.base_unit.specs.Least.{least}
-use Rattle.figures.specs.Run.{new_cell, run, run_answers, answers}
+use Rattle.figures.specs.Run.{least, new_cell, run, run_answers, answers}
 
 -- two places are offered: 0 and 1
 abbrev pub two : Entry → Entry → List Entry
@@ -22,10 +19,6 @@ owed_10 = offered (pos 10) 20 (price_of 20)
 abbrev pub owed_9 : Entry
 owed_9 = offered (pos 9) 18 (price_of 18)
 
--- the cell after twelve calls of the worked run
-abbrev pub twelfth : Cell LeastServed
-twelfth = after least new_cell (take 12 run)
-
 pub record AllFigures : Type 0 where
   -- prices, refusals, shares of a departing lag, and the bound of a share
   pub worked : FiguresStand least
@@ -35,10 +28,6 @@ pub record AllFigures : Type 0 where
   pub lower_too : largest_debt (two owed_9 owed_10) ≡ Some 0
   -- the worked run, and where the twelfth call leaves it
   pub printed : answers least new_cell run ≡ run_answers
-  pub mark : twelfth.mark ≡ 450
-  pub lag_0 : (at twelfth.table 0).lag ≡ pos 0
-  pub lag_1 : (at twelfth.table 1).lag ≡ pos 0
-  pub time_0 : (at twelfth.table 0).virtual_time ≡ 402
-  pub time_1 : (at twelfth.table 1).virtual_time ≡ 450
-  pub allowance_0 : (at twelfth.table 0).allowance ≡ pos 0
-  pub allowance_1 : (at twelfth.table 1).allowance ≡ pos 300
+  pub mark : (after least new_cell (take 12 run)).mark ≡ 450
+  pub lag_0 : (at (after least new_cell (take 12 run)).table 0).lag ≡ pos 0
+  pub lag_1 : (at (after least new_cell (take 12 run)).table 1).lag ≡ pos 0

@@ -1,5 +1,5 @@
 -- The worked run: keep 2, least served, two sessions. Place 0 fades while place 1 sends, and is paid back.
-use Rattle.std.specs.Prelude.{ℕ, true, false, List, [], ◌∷◌, Some, Ok, Err, Result}
+use Rattle.std.specs.Prelude.{ℕ, true, false, List, [], ◌∷◌, Some, None, Ok, Err, Result}
 use Rattle.answer.specs.declared.refusal.Refusal.{Refusal}
 use Rattle.answer.specs.declared.refusal.Refusal.TheVariants.{NoneActive}
 use Rattle.answer.specs.declared.turn.Answer.{Answer}
@@ -7,10 +7,14 @@ use Rattle.answer.specs.declared.turn.Answer.TheVariants.{Done, Turn as Turned}
 use Rattle.answer.specs.declared.turn.Kind.{Kind}
 use Rattle.answer.specs.declared.turn.Kind.TheVariants.{Normal, Credit, Extra}
 use Rattle.least_served.specs.declared.counts.LeastServed.{LeastServed}
-use Rattle.least_served.specs.Served.{unserved}
-use Rattle.model.specs.Meaning.{Meaning}
+use Rattle.least_served.specs.Served.{unserved, least_served, stopped, after_served, after_joined, after_cleared}
+use Rattle.model.specs.Meaning.{Meaning, meaning}
 use Rattle.model.specs.Cell.{Cell}
 use Rattle.model.specs.Calls.{Call, opening, closing, arrival, report, turn, step, new}
+
+-- least served, as the cell has it
+abbrev pub least : Meaning LeastServed
+least = meaning (λ c line o. least_served c line o.entries) (after_served stopped) (λ c line place o. after_joined c line place o.entries) after_cleared
 
 abbrev pub new_cell : Cell LeastServed
 new_cell = new 2 unserved
@@ -22,9 +26,7 @@ run =
 
 -- chosen, sender, tag, length, kind
 abbrev pub sends : ℕ → ℕ → ℕ → ℕ → Kind → Result Answer Refusal
-sends chosen sender tag bytes kind =
-    let sent = Some (record { sender = sender; tag = tag }) in
-    Ok (Turned (record { chosen = chosen; sent = sent; length = bytes; kind = kind }))
+sends chosen sender tag bytes kind = Ok (Turned (record { chosen = chosen; sent = Some (record { sender = sender; tag = tag }); length = bytes; kind = kind }))
 
 abbrev pub ok : Result Answer Refusal
 ok = Ok Done

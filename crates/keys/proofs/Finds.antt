@@ -5,8 +5,8 @@ use Rattle.std.proofs.lemmas.Bool.{cases_Bool, cases_lt, both_ways, and_from, an
 use Rattle.std.proofs.lemmas.List.{get_or_past, get_or_read}
 use Rattle.keys.specs.Order.{Order}
 use Rattle.keys.specs.Better.{better_of, place_of}
-use Rattle.keys.specs.Least.{unbeaten, is_least, first, least_of, Least}
 use Rattle.keys.proofs.Options.{some_none, same_some}
+use Rattle.keys.specs.Least.{unbeaten, is_least, first, least_of, Least}
 
 -- of the candidates below i the key k at a is the least
 pub record Best {K : Type 0} (before : K → K → Bool) (row : List (Option K)) (i a : ℕ) (k : K) : Type 0 where

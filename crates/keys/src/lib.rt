@@ -1,4 +1,6 @@
 // Kinds of keys, and the one search for the least of them.
+#![tactic(auto)]
+
 mod count;
 mod debt;
 mod key;

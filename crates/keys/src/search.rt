@@ -5,18 +5,15 @@ ghost use Rattle.keys.specs.Least.{least_of, Least};
 
 use super::key::Key;
 
-// The best so far, unless the entry at i comes before it. It is built anew, which is quicker than to copy it whole.
+// The best so far, unless the entry at i comes before it.
 fn better<K: Key + Copy>(best: Option<(usize, K)>, i: usize, entry: Option<K>) -> Option<(usize, K)>
     ensures { result ≡ better_of before best i entry }
 {
-    match best {
-        None => match entry {
-            None => None,
-            Some(key) => Some((i, key)),
-        },
-        Some((at, top)) => match entry {
-            None => Some((at, top)),
-            Some(key) => {
+    match entry {
+        None => best,
+        Some(key) => match best {
+            None => Some((i, key)),
+            Some((at, top)) => {
                 if key.is_before(&top) {
                     Some((i, key))
                 } else {

@@ -1,12 +1,12 @@
 -- The pick has the largest debt.
 use Rattle.std.specs.Prelude.{◌≡◌, ℕ, true, false, List, ℤ, ◌≤ℤ◌, Some, None, Option, int_lt}
-use Rattle.std.proofs.Common.{arith, ap}
+use Rattle.std.proofs.Common.{ap, arith}
 use Rattle.std.proofs.lemmas.Int.{ints}
 use Rattle.keys.specs.Kinds.{debt, debt_before}
+use Rattle.keys.proofs.Orders.{debt_order}
 use Rattle.chooser.specs.declared.entry.Entry.{Entry}
 use Rattle.chooser.specs.Offers.{sound, PicksOffered}
 use Rattle.chooser.specs.Picks.{PicksFirst}
-use Rattle.keys.proofs.Orders.{debt_order}
 use Rattle.chooser.proofs.Sound.{exact_at}
 use Rattle.chooser.proofs.Picks.{picks_first, picks_offered}
 use Rattle.largest_debt.specs.Largest.{debt_at, debt_key, largest_debt, PicksLargest}

@@ -1,6 +1,6 @@
 -- Where rate times price is the link, lag times price orders two places as lag / rate does.
 use Rattle.std.specs.Prelude.{◌≡◌, ℕ, zero, suc, ◌*◌, ◌<◌, ◌≤◌, ℤ, pos, negsuc, ◌*ℤ◌, ◌≤ℤ◌}
-use Rattle.std.proofs.Common.{mul_comm, mul-zero, mul-le-mul_right, le_of_mul-le-mul_right, arith, sym, ap, ◌∙◌}
+use Rattle.std.proofs.Common.{sym, ap, ◌∙◌, mul_comm, mul-zero, mul-le-mul_right, le_of_mul-le-mul_right, arith}
 use Rattle.std.proofs.Math.Nat.{mul-mul-mul_comm}
 use Rattle.std.proofs.lemmas.Int.{ints}
 

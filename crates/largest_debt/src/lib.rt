@@ -1,4 +1,6 @@
 // The chooser that pays the largest debt.
+#![tactic(auto)]
+
 ghost use Rattle.std.specs.Prelude.{◌≡◌, ◌≤◌, pos, ◌*ℤ◌, unsigned_abs};
 ghost use Rattle.keys.specs.Kinds.{debt};
 ghost use Rattle.keys.specs.Places.{key_at};

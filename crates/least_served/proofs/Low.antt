@@ -2,10 +2,10 @@
 use Rattle.std.proofs.Common.{◌≡◌, ℕ, zero, suc, ◌+◌, ◌*◌, ◌/◌, ◌≤◌, true, cond, ltb, List, [], ◌∷◌, get_or, set, replicate, Some, None, Option, sym, refl, ap, ◌∙◌, ⊎_elim, mul_comm, mul-le-mul, arith}
 use Rattle.std.proofs.lemmas.Bool.{and_parts, cases_Bool, cond-false, cond_both, leb-true}
 use Rattle.tariff.specs.Tariff.{in_tariff}
+use Rattle.tariff.proofs.Wholes.{factored}
 use Rattle.chooser.specs.declared.entry.Entry.{Entry}
 use Rattle.chooser.specs.declared.entry.Line.{Line}
 use Rattle.chooser.specs.declared.entry.Line.TheVariants.{Credit, Extra}
-use Rattle.tariff.proofs.Wholes.{factored}
 use Rattle.chooser.proofs.Sound.{price_bound}
 use Rattle.least_served.specs.declared.counts.LeastServed.{LeastServed}
 use Rattle.least_served.specs.Served.{unserved, count_at, with_count, least_served, raised, joined_count}

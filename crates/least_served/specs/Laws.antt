@@ -3,11 +3,11 @@ use Rattle.std.specs.Prelude.{◌≡◌, ℕ, ◌<◌, true, List, Some, None, O
 use Rattle.std.proofs.Common.{ap}
 use Rattle.std.proofs.lemmas.Bool.{ltb-false}
 use Rattle.keys.specs.Kinds.{count, count_before}
+use Rattle.keys.proofs.Orders.{count_order}
 use Rattle.chooser.specs.declared.entry.Entry.{Entry}
 use Rattle.chooser.specs.declared.entry.Line.{Line}
 use Rattle.chooser.specs.Offers.{sound, PicksOffered}
 use Rattle.chooser.specs.Picks.{PicksFirst}
-use Rattle.keys.proofs.Orders.{count_order}
 use Rattle.chooser.proofs.Picks.{picks_first, picks_offered, picked_inside}
 use Rattle.least_served.specs.declared.counts.LeastServed.{LeastServed}
 use Rattle.least_served.specs.Served.{count_at, count_key, least_served, PicksLeastServed}

@@ -12,8 +12,7 @@ use keys::{Count, least};
 // A count stops here.
 const STOP: u64 = 9_223_372_036_854_775_807;
 
-#[repr(C)]
-#[derive(Clone, Copy)]
+#[derive(Drop)]
 pub struct LeastServed {
     credit: [u64; 64],
     extra: [u64; 64],

@@ -1,4 +1,6 @@
 // The chooser that picks whom it has served least.
+#![tactic(auto)]
+
 ghost use Rattle.std.specs.Prelude.{◌≡◌};
 ghost use Rattle.least_served.specs.Served.{least_served, PicksLeastServed, stopped, after_served, after_joined, after_cleared};
 ghost use Rattle.least_served.specs.Laws.{least_is_offered};

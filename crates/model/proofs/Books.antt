@@ -3,7 +3,6 @@ use Rattle.std.proofs.Common.{◌≡◌, ℕ, zero, suc, ◌*◌, ◌≤◌, tru
 use lib.Signed.{lt_z}
 use borrow.Author.Differences.{ints}
 use Rattle.std.proofs.lemmas.Bool.{cases_Bool, false≢true, or_parts, or_from}
-use Rattle.keys.proofs.Options.{same_some}
 use Rattle.model.specs.Limits.{places, longest, quarters}
 use Rattle.model.specs.Session.{Session, vacant, waiting, leads, above_zero}
 use Rattle.model.specs.Table.{at, vacancies, total, totalℤ, least}
@@ -11,7 +10,7 @@ use Rattle.model.specs.Meaning.{Meaning, Lawful}
 use Rattle.model.specs.Cell.{Cell}
 use Rattle.model.specs.Calls.{Call, step, new}
 use Rattle.model.specs.Sound.{Orderly, Sound}
-use Rattle.model.proofs.Ledger.{Row, Book, Ordered}
+use Rattle.model.proofs.Ledger.{Row, Book, Ordered, owing}
 use Rattle.model.proofs.Share.{least_reached}
 use Rattle.model.proofs.Settle.{least_some}
 use Rattle.model.proofs.Senders.{lag_within}
@@ -92,7 +91,10 @@ module _ {C : Type 0} (x : Cell C) where
   lowest : Ordered x → (v : ℕ) → least x.table ≡ Some v → v ≡ x.mark
   lowest s v e =
       let r = least_reached x.table v e in
-      same_some (least x.table) v x.mark e (s.book.lowest r.0 r.2)
+      same v x.mark (sym e ∙ s.book.lowest r.0 r.2)
+    where
+      same : (a b : ℕ) → Some a ≡ Some b → a ≡ b
+      same a b e = cc
 
   pub sound_from : Ordered x → Within x → Sound x
   sound_from s w = record {

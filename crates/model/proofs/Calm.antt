@@ -1,17 +1,16 @@
 -- A call that is no turn changes one place and moves no account.
-use Rattle.std.proofs.Common.{◌≡◌, ℕ, ◌+◌, ◌-◌, ◌*◌, ◌<◌, ◌≤◌, max, Bool, true, false, not, ◌||◌, ◌⊎◌, List, [], ◌∷◌, ◌++◌, length, sym, refl, ap, ◌∙◌, subst, inl, inr, zero-mul, arith}
+use Rattle.std.proofs.Common.{◌≡◌, ℕ, ◌+◌, ◌-◌, ◌*◌, ◌<◌, ◌≤◌, max, Bool, true, false, cond, ◌||◌, ◌⊎◌, List, [], ◌∷◌, ◌++◌, length, sym, refl, ap, ◌∙◌, subst, inl, inr, zero-mul, arith}
 use native.Mathlib.Decide.{ℕ_discrete}
 use Rattle.std.proofs.lemmas.List.{length-append}
 use Rattle.std.proofs.ByRecursion.{All-append}
 use Rattle.std.proofs.lemmas.Bool.{cases_Bool, both_ways, true≢false, false≢true, or_left, cond-true, cond-false}
-use Rattle.queue.specs.Fifo.{is_empty}
 use Rattle.tariff.specs.Tariff.{link, in_tariff, price_of}
 use Rattle.tariff.proofs.Wholes.{factored}
 use Rattle.model.specs.Limits.{longest, most_waiting}
-use Rattle.model.specs.Session.{Frame, Session, vacant, fresh, with_good, able, waiting, leads}
+use Rattle.model.specs.Session.{Frame, Session, vacant, fresh, with_good, able, waiting, some_wait, leads}
 use Rattle.model.specs.Table.{Table, at, change, total, booked_total}
 use Rattle.model.specs.Cell.{mark_after}
-use Rattle.model.specs.Calls.{start, arrived}
+use Rattle.model.specs.Calls.{arrived}
 use Rattle.model.specs.Sound.{Fits}
 use Rattle.model.proofs.Tables.{length_change, at_change, at_other, total_same, totalℤ_same}
 use Rattle.model.proofs.Ledger.{Row, Draft, Book, excess}
@@ -122,18 +121,18 @@ close_calm m s row e v =
       kept = λ a. absurd (both_ways s.active e (able_active m s row a));
     }
 
-more_wait : (q : List Frame) (f : Frame) → not (is_empty (q ++ f ∷ [])) ≡ true
+more_wait : (q : List Frame) (f : Frame) → some_wait (q ++ f ∷ []) ≡ true
 more_wait [] f = refl
 more_wait (g ∷ q) f = refl
 
 -- the virtual time at which a session goes on when a frame arrives
 came : (m : ℕ) (s : Session) → Row m s →
-    let v = start m s in
+    let v = cond s.active s.virtual_time (max s.virtual_time m) in
     (m ≤ v) × (v ≤ m + longest * s.price) × (v - m ≡ s.virtual_time - m) × (s.active ≡ true → v ≡ s.virtual_time)
 came m s r = by (cases_Bool s.active)
   where
     by : (s.active ≡ true) ⊎ (s.active ≡ false) →
-        let v = start m s in
+        let v = cond s.active s.virtual_time (max s.virtual_time m) in
         (m ≤ v) × (v ≤ m + longest * s.price) × (v - m ≡ s.virtual_time - m) × (s.active ≡ true → v ≡ s.virtual_time)
     by (inl a) =
         let e = cond-true s.active s.virtual_time (max s.virtual_time m) a in
@@ -159,7 +158,7 @@ arrive_calm m f s row b fits more =
       lag = refl;
       same = ap (λ (k : ℕ). k * s.rate) v.2;
       held = λ _. v.0;
-      busy = λ _. or_left (not (is_empty (s.queue ++ f ∷ []))) (leads s) (more_wait s.queue f);
+      busy = λ _. or_left (some_wait (s.queue ++ f ∷ [])) (leads s) (more_wait s.queue f);
       kept = λ a. (refl, v.3 (able_active m s row a));
     }
 

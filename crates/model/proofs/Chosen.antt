@@ -1,7 +1,6 @@
 -- Whose turn it is, said by what it is: active, at the smallest virtual time, and the lowest place of those.
-use Rattle.std.proofs.Common.{◌≡◌, ℕ, ◌<◌, ◌≤◌, true, false, eqb, ◌⊎◌, length, Some, None, Option, refl, ap, ◌∙◌, inl, inr, arith}
+use Rattle.std.proofs.Common.{◌≡◌, ℕ, ◌<◌, ◌≤◌, true, false, eqb, ◌⊎◌, length, Some, None, Option, sym, refl, ap, ◌∙◌, inl, inr, arith}
 use Rattle.std.proofs.lemmas.Bool.{true≢false, and_parts, and_from, both_ways, eqb-true, eq-eqb, cases_lt}
-use Rattle.keys.proofs.Options.{same_some}
 use Rattle.model.specs.Session.{Session}
 use Rattle.model.specs.Table.{Table, at, due, first, is_none, least, none_active, chosen, chosen_at}
 use Rattle.model.proofs.Tables.{first_found, first_none, first_before}
@@ -33,8 +32,11 @@ next_from t v c e f = record {
     level : (at t c).virtual_time ≡ v
     level = eqb-true (at t c).virtual_time v hit.1
 
+    same : (a b : ℕ) → Some a ≡ Some b → a ≡ b
+    same a b g = cc
+
     up : (j : ℕ) → (at t j).active ≡ true → v ≤ (at t j).virtual_time
-    up j a = let r = least_some t j a in omega (arith, r.2, same_some (least t) v r.0 e r.1)
+    up j a = let r = least_some t j a in omega (arith, r.2, same v r.0 (sym e ∙ r.1))
 
     apart : (w : ℕ) → v ≤ w → (w ≡ v → ⊥) → (at t c).virtual_time < w
     apart w l n = by (cases_lt v w)

@@ -1,19 +1,88 @@
--- Departures keep the accounts, and end when nobody is left to depart.
-use Rattle.std.proofs.Common.{◌≡◌, ℕ, zero, suc, ◌+◌, ◌*◌, ◌<◌, ◌≤◌, Bool, true, false, not, ◌&&◌, ◌||◌, ◌⊎◌, length, ℤ, pos, negsuc, ◌+ℤ◌, ◌≤ℤ◌, Some, None, Option, sym, refl, ap, ◌∙◌, subst, ap₂, inl, inr, le_trans, le_refl, zero-add, arith}
+-- Departures keep the accounts, and end when nobody is gone to depart.
+use Rattle.std.proofs.Common.{◌≡◌, ℕ, zero, suc, ◌+◌, ◌-◌, ◌*◌, ◌/◌, ◌<◌, ◌≤◌, Bool, true, false, not, ◌&&◌, ◌||◌, ◌⊎◌, [], ◌∷◌, length, ℤ, pos, negsuc, ◌+ℤ◌, ◌≤ℤ◌, Some, None, Option, sym, refl, ap, ◌∙◌, subst, ap₂, inl, inr, le_trans, le_refl, add-zero, mul-le-mul_left, mul-zero, le-div_iff_mul-le, zero-add, div-mul-le_self, mul-div_cancel, arith}
+use native.Mathlib.Nat.{div-zero}
+use native.Mathlib.Nat.{zero-div, sub_self}
 use lib.Signed.{lt_z}
 use borrow.Author.Differences.{ints}
-use Rattle.std.proofs.lemmas.Bool.{cases_Bool, both_ways, true≢false, false≢true, and_parts, not-true, cond-true}
+use Rattle.std.proofs.lemmas.Bool.{cases_Bool, both_ways, true≢false, false≢true, and_parts, not-true, cond-true, cond-false}
 use Rattle.tariff.specs.Tariff.{link}
 use Rattle.model.specs.Session.{Session, vacant, waiting, leads, above_zero}
-use Rattle.model.specs.Table.{active_count, Table, at, change, total, totalℤ, first, one_if, owing}
+use Rattle.model.specs.Table.{active_count, Table, at, change, total, totalℤ, first, one_if}
 use Rattle.model.specs.Turn.{owed}
 use Rattle.model.specs.Departures.{departing, gone, active_rate, share, departed, depart, departures}
 use Rattle.model.specs.Sound.{Midway}
 use Rattle.model.proofs.Tables.{length_change, at_other, total_change, total_same, totalℤ_change, totalℤ_none}
 use Rattle.model.proofs.Tables.{total_zero, first_found, first_none, first_never, each_change, change_same}
-use Rattle.model.proofs.Ledger.{Row, Draft}
+use Rattle.model.proofs.Ledger.{Row, Draft, owing}
 use Rattle.model.proofs.Share.{active_booked}
-use Rattle.model.proofs.Sharing.{length_share, share_at, total_share, parts, parts_owed, whole, not_more}
+
+div_mono : (r : ℕ) {a b : ℕ} → a ≤ b → a / r ≤ b / r
+div_mono zero {a} {b} h = omega (arith, div-zero a, div-zero b)
+div_mono (suc r) {a} {b} h = (le-div_iff_mul-le (omega arith)).1 (le_trans (div-mul-le_self a (suc r)) h)
+
+pub owed_more : (z : ℤ) (n : ℕ) → above_zero (z +ℤ pos n) ≤ above_zero z + n
+owed_more z n = by (z +ℤ pos n) z refl
+  where
+    by : (w z : ℤ) → w ≡ z +ℤ pos n → above_zero w ≤ above_zero z + n
+    by (pos k) (pos a) e = omega (arith, ints)
+    by (pos k) (negsuc a) e = omega (arith, ints)
+    by (negsuc k) z e = omega arith
+
+-- ---- one lag shared
+
+length_share : (l r c : ℕ) (t : Table) → length (share l r c t) ≡ length t
+unfolding share
+length_share l r c [] = refl
+length_share l r c (s ∷ t) = ap suc (length_share l r (c + active_rate s) t)
+
+no_part : (l r c a : ℕ) → a ≡ 0 → l * (c + a) / r - l * c / r ≡ 0
+no_part l r c a e =
+    ap (λ (a : ℕ). l * (c + a) / r - l * c / r) e ∙ ap (λ (k : ℕ). l * k / r - l * c / r) (add-zero c) ∙ sub_self (l * c / r)
+
+-- each place gets a part, and one that is not active gets None
+pub share_at : (l r c : ℕ) (t : Table) (j : ℕ) →
+    (n : ℕ) × (at (share l r c t) j ≡ owed n (at t j)) × ((at t j).active ≡ false → n ≡ 0)
+unfolding at share
+share_at l r c [] j = (0, refl, λ e. refl)
+share_at l r c (s ∷ t) zero =
+    (l * (c + active_rate s) / r - l * c / r, refl, λ e. no_part l r c (active_rate s) (cond-false s.active s.rate 0 e))
+share_at l r c (s ∷ t) (suc j) = share_at l r (c + active_rate s) t j
+
+total_share : (g : Session → ℕ) → ((n : ℕ) (s : Session) → g (owed n s) ≡ g s) → (l r c : ℕ) (t : Table) →
+    total g (share l r c t) ≡ total g t
+unfolding share total
+total_share g h l r c [] = refl
+total_share g h l r c (s ∷ t) =
+    omega (arith, h (l * (c + active_rate s) / r - l * c / r) s, total_share g h l r (c + active_rate s) t)
+
+-- the parts add up
+pub parts : (l r c e : ℕ) (t : Table) → c + total active_rate t ≡ e →
+    totalℤ (λ s. s.lag) (share l r c t) ≡ totalℤ (λ s. s.lag) t +ℤ pos (l * e / r - l * c / r)
+unfolding share total totalℤ
+parts l r c e [] h =
+    let z : l * e / r - l * c / r ≡ 0 = ap (λ (k : ℕ). l * k / r - l * c / r) (sym h ∙ add-zero c) ∙ sub_self (l * c / r) in
+    ap pos (omega arith)
+parts l r c e (s ∷ t) h =
+    let f = parts l r (c + active_rate s) e t (omega arith) in
+    let low : l * c / r ≤ l * (c + active_rate s) / r = div_mono r (mul-le-mul_left l (omega arith)) in
+    let high : l * (c + active_rate s) / r ≤ l * e / r = div_mono r (mul-le-mul_left l (omega arith)) in
+    joined s.lag _ _ _ _ _ f low high
+  where
+    joined : (a b d : ℤ) (x y z : ℕ) → d ≡ b +ℤ pos (z - y) → x ≤ y → y ≤ z →
+        (a +ℤ pos (y - x)) +ℤ d ≡ (a +ℤ b) +ℤ pos (z - x)
+    joined a b d x y z f low high = omega (arith, ints)
+
+-- and no more is owed after than before, but for what was shared
+parts_owed : (l r c e : ℕ) (t : Table) → c + total active_rate t ≡ e →
+    owing (share l r c t) ≤ owing t + (l * e / r - l * c / r)
+unfolding share total
+parts_owed l r c e [] h = omega arith
+parts_owed l r c e (s ∷ t) h =
+    let f = parts_owed l r (c + active_rate s) e t (omega arith) in
+    let low : l * c / r ≤ l * (c + active_rate s) / r = div_mono r (mul-le-mul_left l (omega arith)) in
+    let high : l * (c + active_rate s) / r ≤ l * e / r = div_mono r (mul-le-mul_left l (omega arith)) in
+    let g = owed_more s.lag (l * (c + active_rate s) / r - l * c / r) in
+    omega arith
 
 -- ---- one departure
 
@@ -22,6 +91,17 @@ departs s e =
     let p = and_parts s.active (not (waiting s) && not (leads s)) e in
     let q = and_parts (not (waiting s)) (not (leads s)) p.1 in
     (p.0, not-true (waiting s) q.0, not-true (leads s) q.1)
+
+pub whole : (l r : ℕ) → (r ≡ 0 → l ≡ 0) → l * r / r - l * 0 / r ≡ l
+whole l zero h = sub_self (l * 0 / 0) ∙ sym (h refl)
+whole l (suc r) h =
+    let a = mul-div_cancel l {n = suc r} (omega arith) in
+    let b : l * 0 / suc r ≡ 0 = ap (λ (k : ℕ). k / suc r) (mul-zero l) ∙ zero-div (suc r) in
+    omega arith
+
+not_more : (l r : ℕ) → l * r / r - l * 0 / r ≤ l
+not_more l zero = omega (arith, sub_self (l * 0 / 0))
+not_more l (suc r) = omega (arith, mul-div_cancel l {n = suc r} (omega arith))
 
 -- the table without the one that departs, what it was owed, and the rates that share it
 abbrev less : Table → ℕ → Table
@@ -281,15 +361,15 @@ depart_waits (suc n) t j w =
     le_transℤ _ _ _ (once_waits t (first departing t) refl j w)
     (depart_waits n (departed t (first departing t)) j (once_same waiting (λ n s. refl) (λ s. refl) t (first departing t) refl j ∙ w))
 
-pub depart_still : (n : ℕ) (t : Table) → first departing t ≡ None → depart n t ≡ t
+depart_still : (n : ℕ) (t : Table) → first departing t ≡ None → depart n t ≡ t
 unfolding depart departed
 depart_still zero t e = refl
 depart_still (suc n) t e = ap (λ (o : Option ℕ). depart n (departed t o)) e ∙ depart_still n t e
 
--- nobody is left to depart
+-- nobody is gone to depart
 depart_ends : (n : ℕ) (t : Table) → active_count t ≤ n → first departing (depart n t) ≡ None
 unfolding depart departed
-depart_ends zero t h = first_never departing t (λ j _. quiet j)
+depart_ends zero t h = first_never departing t (λ j. quiet j)
   where
     quiet : (j : ℕ) → departing (at t j) ≡ false
     quiet j = by (cases_Bool (at t j).active)

@@ -11,18 +11,17 @@ use Rattle.answer.specs.declared.turn.Sent.{Sent}
 use Rattle.answer.specs.declared.turn.Turn.{Turn}
 use Rattle.model.specs.Limits.{places, idle_length, quarters}
 use Rattle.model.specs.Session.{Frame, able}
-use Rattle.model.specs.Table.{Table, at, chosen, active_count}
+use Rattle.model.specs.Table.{Table, at, chosen}
 use Rattle.model.specs.Meaning.{Meaning, Lawful}
 use Rattle.model.specs.Turn.{Way, by_right, by_allowance, by_credit, unclaimed, by_extra, idle, sender, kind, sent_of}
 use Rattle.model.specs.Turn.{length_of, answer_of}
 use Rattle.model.specs.Cell.{Cell, settled}
 use Rattle.model.specs.Calls.{Call, opening, closing, arrival, report, turn, refusal, Outcome, decide, turn_after}
-use Rattle.model.specs.Calls.{turn_of, accepted, outcome, step, new}
-use Rattle.model.specs.Reasons.{sender_of, Reason, Debt}
+use Rattle.model.specs.Calls.{accepted, outcome, step, new}
 use Rattle.model.specs.History.{sent_from, taken_from, brought_to, frame_of, bytes, sum_to, after, sent, sent_by}
 use Rattle.model.specs.History.{brought, Throughout}
-use Rattle.model.specs.Promises.{GetsItsShare, IdlesOnlyIfNoneAble, ChoosesTheLeastAdvanced, SaysWhy, ChargesTheChosen, WritesDownTheDebt}
-use Rattle.model.specs.Promises.{SaysWhoSent, SaysWhenIdle, KeepsTheQueues, SendsWhatItSays, CountsEveryByte}
+use Rattle.model.specs.Promises.{GetsItsShare, IdlesOnlyIfNoneAble, ChoosesTheLeastAdvanced, SaysWhoSent}
+use Rattle.model.specs.Promises.{SaysWhenIdle, KeepsTheQueues, SendsWhatItSays, CountsEveryByte}
 use Rattle.model.specs.Promises.{AlwaysBalanced, ActiveExactlyWhen, RefusesWithoutTrace, RefusesInOrder}
 use Rattle.model.specs.Promises.{MarkNeverFalls, ClosingShedsNothing, StaysWithin, KeepsItsBooks, Promises}
 use Rattle.model.proofs.Ledger.{Ordered}
@@ -30,8 +29,6 @@ use Rattle.model.proofs.Share.{share_from}
 use Rattle.model.proofs.Chosen.{chosen_next}
 use Rattle.model.proofs.Senders.{Rightly, decides}
 use Rattle.model.proofs.Turn.{each_way}
-use Rattle.model.proofs.Reasons.{way_reason, Charged, turn_charged}
-use Rattle.model.proofs.Debts.{turn_debt}
 use Rattle.model.proofs.Cases.{each_case}
 use Rattle.model.proofs.Calls.{step_good}
 use Rattle.model.proofs.Bounds.{Within, step_within}
@@ -88,24 +85,19 @@ module _ {C : Type 0} (M : Meaning C) (law : Lawful M) where
   -- ---- one call
 
   -- what holds of the turn of whoever is chosen holds of an accepted turn
-  turn_leaves : (x : Cell C) (P : Turn → Cell C → Type 0) → Ordered x →
-      ((c : ℕ) → chosen x.table ≡ Some c → P (answer_of x.table c (decide M x c)) (turn_of M x c).cell) →
-      (a : Turn) → (step M x turn).answer ≡ Ok (Turned a) → P a (step M x turn).cell
+  turn_case : (x : Cell C) (P : Turn → Type 0) → Ordered x →
+      ((c : ℕ) → chosen x.table ≡ Some c → P (answer_of x.table c (decide M x c))) →
+      (a : Turn) → (step M x turn).answer ≡ Ok (Turned a) → P a
   unfolding accepted
-  turn_leaves x P s h =
-      each_case M x s.book.draft.size (λ _ o. (a : Turn) → o.answer ≡ Ok (Turned a) → P a o.cell)
+  turn_case x P s h =
+      each_case M x s.book.draft.size (λ _ o. (a : Turn) → o.answer ≡ Ok (Turned a) → P a)
       (λ _ why a e. not_refused (Turned a) why e)
       (λ _ _ _ _ _ _ a e. not_turned a e)
       (λ _ _ _ _ _ a e. not_turned a e)
       (λ _ _ _ _ _ _ _ _ a e. not_turned a e)
       (λ _ _ _ _ a e. not_turned a e)
-      (λ c k _ a e. subst (λ (a : Turn). P a (turn_of M x c).cell) (same_turn (answer_of x.table c (decide M x c)) a e) (h c k))
+      (λ c k _ a e. subst P (same_turn (answer_of x.table c (decide M x c)) a e) (h c k))
       turn
-
-  turn_case : (x : Cell C) (P : Turn → Type 0) → Ordered x →
-      ((c : ℕ) → chosen x.table ≡ Some c → P (answer_of x.table c (decide M x c))) →
-      (a : Turn) → (step M x turn).answer ≡ Ok (Turned a) → P a
-  turn_case x P = turn_leaves x (λ a _. P a)
 
   -- what a turn takes, by its answer
   turn_takes : (x : Cell C) (a : Turn) (i : ℕ) → Ordered x → (step M x turn).answer ≡ Ok (Turned a) →
@@ -207,29 +199,6 @@ module _ {C : Type 0} (M : Meaning C) (law : Lawful M) where
   chooses keep c ks =
       let x = after M (new keep c) ks in
       turn_case x _ (reached keep c ks) (λ c e. let n = chosen_next x.table c e in (n.active, n.least, n.before))
-
-  pub reasons : SaysWhy M
-  reasons keep c ks =
-      let x = after M (new keep c) ks in
-      let s = reached keep c ks in
-      turn_case x (λ a. Reason x.table a.chosen (sender_of a.sent) a.kind) s (λ c e. way_reason M law x c s)
-
-  pub charges : ChargesTheChosen M
-  unfolding settled turn_after
-  charges keep c ks =
-      let x = after M (new keep c) ks in
-      turn_leaves x (λ a y. Charged a.chosen a.length x.table y.table) (reached keep c ks)
-      (λ c e. turn_charged x.keep c _ x.table (chosen_next x.table c e).inside (decide M x c))
-
-  pub debts : WritesDownTheDebt M
-  unfolding settled turn_after
-  debts keep c ks =
-      let x = after M (new keep c) ks in
-      let t = x.table in
-      let s = reached keep c ks in
-      turn_leaves x
-      (λ a y. active_count y.table ≡ active_count t → Debt a.chosen a.length (sender_of a.sent) t y.table) s
-      (λ c e. turn_debt x.keep _ t c (chosen_next t c e).inside (decide M x c) (decides M law x c s))
 
   says_who : SaysWhoSent M
   says_who keep c ks a s e f =
@@ -339,9 +308,6 @@ module _ {C : Type 0} (M : Meaning C) (law : Lawful M) where
     share = shares;
     idles = idle_turns;
     chooses = chooses;
-    why = reasons;
-    charges = charges;
-    debts = debts;
     says = says;
     counts = counts;
     balance = balanced;

@@ -8,8 +8,7 @@ use Rattle.model.specs.Turn.{owed}
 use Rattle.model.specs.Departures.{departing, active_rate, part, share}
 use Rattle.model.specs.Laws.{HandsOutAll, Floors, KeepsTheSum, SparesTheInactive, DepartsJustly}
 use Rattle.model.proofs.Tables.{first_found}
-use Rattle.model.proofs.Sharing.{share_at, parts, whole}
-use Rattle.model.proofs.Departures.{departed_sum, departures_end}
+use Rattle.model.proofs.Departures.{share_at, parts, whole, departed_sum, departures_end}
 
 hands_out_all : HandsOutAll
 hands_out_all lag t h =

@@ -1,16 +1,20 @@
 -- What the argument about a session's share reads off a cell, and what one call may do to it. Nothing here says how a turn works.
-use Rattle.std.proofs.Common.{◌≡◌, ℕ, ◌+◌, ◌-◌, ◌*◌, ◌≤◌, true, false, ◌||◌, ◌⊎◌, length, pos, ◌+ℤ◌, ◌≤ℤ◌, Some}
+use Rattle.std.proofs.Common.{◌≡◌, ℕ, ◌+◌, ◌-◌, ◌*◌, ◌≤◌, true, false, ◌||◌, ◌⊎◌, length, ℤ, pos, ◌+ℤ◌, ◌≤ℤ◌, Some}
 use Rattle.std.specs.List.{AllByRecursion as All}
 use Rattle.tariff.specs.Tariff.{link}
 use Rattle.model.specs.Limits.{places, longest, most_waiting, most_turns}
-use Rattle.model.specs.Session.{Session, vacant, waiting, leads}
-use Rattle.model.specs.Table.{Table, at, total, lag_total, owing, booked_total, least}
+use Rattle.model.specs.Session.{Session, vacant, waiting, leads, above_zero}
+use Rattle.model.specs.Table.{Table, at, total, totalℤ, booked_total, least}
 use Rattle.model.specs.Cell.{Cell}
 use Rattle.model.specs.Sound.{Fits}
 
 -- how far a session's virtual time is above the mark, times its rate
 abbrev pub excess : ℕ → Session → ℕ
 excess m s = (s.virtual_time - m) * s.rate
+
+-- what all lagging sessions together are owed
+abbrev pub owing : Table → ℕ
+owing t = total (λ s. above_zero s.lag) t
 
 -- a place, at a mark, during a call and after it
 pub record Row (m : ℕ) (s : Session) : Type 0 where
@@ -27,7 +31,7 @@ pub record Draft (m : ℕ) (t : Table) : Type 0 where
   pub size : length t ≡ places
   pub rows : (j : ℕ) → Row m (at t j)
   pub rates : booked_total t ≤ link
-  pub balance : lag_total t ≡ pos 0
+  pub balance : totalℤ (λ s. s.lag) t ≡ pos 0
 
 -- after a call: the active sessions are those with a frame and those that lead, and the mark is their smallest virtual time
 pub record Book (m : ℕ) (t : Table) : Type 0 where

@@ -2,14 +2,10 @@ pub mod Tables
 pub mod Ledger
 pub mod Share
 pub mod Settle
-pub mod Sharing
 pub mod Departures
 pub mod Chosen
 pub mod Senders
-pub mod Reasons
 pub mod Turn
-pub mod Debts
-pub mod Ways
 pub mod Turned
 pub mod Calm
 pub mod Cases

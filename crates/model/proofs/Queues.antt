@@ -1,12 +1,10 @@
 -- What waited, then what a call brought, is what it took, then what waits.
-use Rattle.std.proofs.Common.{◌≡◌, ℕ, zero, suc, ◌+◌, ◌<◌, ◌≤◌, true, false, cond, not, eqb, ◌⊎◌, List, [], ◌∷◌, ◌++◌, length, Some, None, Option, sym, refl, ap, ◌∙◌, subst, ap₂, inl, inr, arith}
+use Rattle.std.proofs.Common.{◌≡◌, ℕ, zero, suc, ◌+◌, ◌<◌, ◌≤◌, true, false, cond, eqb, ◌⊎◌, List, [], ◌∷◌, ◌++◌, length, Some, None, Option, sym, refl, ap, ◌∙◌, subst, ap₂, inl, inr, arith}
 use native.Mathlib.Decide.{ℕ_discrete}
 use Rattle.std.proofs.lemmas.Bool.{cond-true, cond-false, eq-eqb, ne_eqb, false≢true, and_parts, cases_lt}
 use Rattle.std.proofs.lemmas.List.{append-nil}
-use Rattle.queue.specs.Fifo.{is_empty}
 use Rattle.tariff.specs.Tariff.{price_of}
-use Rattle.keys.proofs.Options.{same_some}
-use Rattle.model.specs.Session.{Frame, Session, vacant, fresh, with_good, able, waiting}
+use Rattle.model.specs.Session.{Frame, Session, vacant, fresh, with_good, able, waiting, some_wait}
 use Rattle.model.specs.Table.{Table, at, change, active_count}
 use Rattle.model.specs.Meaning.{Meaning, Lawful}
 use Rattle.model.specs.Turn.{Way, sender, front, rest, length_of, sent_of, charged, sends, hands_on, takes_up, turned}
@@ -23,7 +21,7 @@ use Rattle.model.proofs.Senders.{Rightly, decides}
 use Rattle.model.proofs.Turn.{each_way}
 use Rattle.model.proofs.Cases.{each_case}
 
-front_and_rest : (q : List Frame) → not (is_empty q) ≡ true → q ≡ front q ∷ rest q
+front_and_rest : (q : List Frame) → some_wait q ≡ true → q ≡ front q ∷ rest q
 front_and_rest [] e = absurd (false≢true e)
 front_and_rest (f ∷ q) e = refl
 
@@ -98,7 +96,7 @@ leaves i t p f l h = append-nil (at t i).queue ∙ by (ℕ_discrete p i)
         (sym (ap (λ (s : Session). s.queue) (at_change t p f l) ∙ h))
     by (no n) = sym (ap (λ (s : Session). s.queue) (at_other t p i f n))
 
-none_waits : (q : List Frame) → not (is_empty q) ≡ false → [] ≡ q
+none_waits : (q : List Frame) → some_wait q ≡ false → [] ≡ q
 none_waits [] e = refl
 none_waits (f ∷ q) e = absurd (false≢true (sym e))
 
@@ -152,8 +150,11 @@ sender_inside t c w r =
     (λ j h q e. found j q h.ready e)
     (λ _ q e. let z : ◌≡◌ {A = ℕ} 0 1 = cc in absurd (omega arith)) w r
   where
+    same_place : (a b : ℕ) → Some a ≡ Some b → a ≡ b
+    same_place a b e = cc
+
     found : (j q : ℕ) → able (at t j) ≡ true → Some j ≡ Some q → q < length t
-    found j q a e = able_within t q (subst (λ (k : ℕ). able (at t k) ≡ true) (same_some (Some j) j q refl e) a)
+    found j q a e = able_within t q (subst (λ (k : ℕ). able (at t k) ≡ true) (same_place j q e) a)
 
 module _ {C : Type 0} (M : Meaning C) (law : Lawful M) where
   abbrev pub Queued : Cell C → ℕ → Call → Outcome M → Type 0

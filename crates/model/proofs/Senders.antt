@@ -6,14 +6,14 @@ use Rattle.tariff.specs.Tariff.{link}
 use Rattle.chooser.specs.Offers.{lag_bound, offered_at, PicksOffered, sound_entry, all_sound, sound}
 use Rattle.model.specs.Limits.{places}
 use Rattle.model.specs.Session.{Session, vacant, able, leads, lags, above_zero, below_zero}
-use Rattle.model.specs.Table.{Table, at, total, totalℤ, chosen, owing}
+use Rattle.model.specs.Table.{Table, at, total, totalℤ, chosen}
 use Rattle.model.specs.Lists.{Line, Credit, Extra, in_line, entry, entry_of, offer, stayed}
 use Rattle.model.specs.Meaning.{Meaning, Lawful}
 use Rattle.model.specs.Turn.{Way, by_right, by_allowance, by_credit, unclaimed, by_extra, idle, way}
 use Rattle.model.specs.Cell.{Cell}
 use Rattle.model.specs.Calls.{decide}
 use Rattle.model.proofs.Tables.{at_past, at_le_total}
-use Rattle.model.proofs.Ledger.{Book, Ordered}
+use Rattle.model.proofs.Ledger.{Book, Ordered, owing}
 use Rattle.model.proofs.Share.{least_reached, active_booked, able_active}
 use Rattle.model.proofs.Chosen.{chosen_next}
 
@@ -28,7 +28,7 @@ not_vacant Credit = refl
 not_vacant Extra = refl
 
 -- an offer offers exactly those in the list
-pub offered_is : (l : Line) (t : Table) (j : ℕ) → offered_at (offer l t) j ≡ in_line l (at t j)
+offered_is : (l : Line) (t : Table) (j : ℕ) → offered_at (offer l t) j ≡ in_line l (at t j)
 unfolding at
 offered_is l [] j = not_vacant l
 offered_is l (s ∷ t) zero = entry_offered (in_line l s) s
@@ -93,10 +93,11 @@ length_offer : (l : Line) (t : Table) → length (offer l t) ≡ length t
 length_offer l [] = refl
 length_offer l (s ∷ t) = ap suc (length_offer l t)
 
-pub length_stayed : (l : Line) (bs : List Bool) (t : Table) → length bs ≡ length t → length (stayed l bs t) ≡ length bs
+length_stayed : (l : Line) (bs : List Bool) (t : Table) → length bs ≡ length t → length (stayed l bs t) ≡ length t
 unfolding stayed
-length_stayed l [] t e = refl
-length_stayed l (b ∷ bs) [] e = absurd (omega arith)
+length_stayed l [] [] e = refl
+length_stayed l [] (s ∷ t) e = e
+length_stayed l (b ∷ bs) [] e = refl
 length_stayed l (b ∷ bs) (s ∷ t) e = ap suc (length_stayed l bs t (omega arith))
 
 -- whoever is able may be offered
@@ -141,7 +142,7 @@ module _ {C : Type 0} (x : Cell C) (o : Ordered x) where
   pub sound_stayed : (l : Line) (bs : List Bool) → length bs ≡ places → sound (stayed l bs x.table) ≡ true
   sound_stayed l bs e =
       and_from (eqb (length (stayed l bs x.table)) 64) (all_sound (stayed l bs x.table))
-      (eq-eqb (length (stayed l bs x.table)) 64 (length_stayed l bs x.table (e ∙ sym o.book.draft.size) ∙ e))
+      (eq-eqb (length (stayed l bs x.table)) 64 (length_stayed l bs x.table (e ∙ sym o.book.draft.size) ∙ o.book.draft.size))
       (all_stayed l bs x.table offerable)
 
 pub decides : {C : Type 0} (M : Meaning C) → Lawful M → (x : Cell C) (c : ℕ) → Ordered x →

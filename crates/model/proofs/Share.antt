@@ -1,13 +1,13 @@
 -- A session that is able throughout a stretch gets its share, from what each call does to the accounts.
 use Rattle.std.proofs.Common.{◌≡◌, ℕ, suc, ◌+◌, ◌-◌, ◌*◌, ◌<◌, ◌≤◌, min, Bool, true, false, ◌⊎◌, List, [], ◌∷◌, length, ℤ, pos, negsuc, ◌+ℤ◌, ◌≤ℤ◌, Some, None, Option, sym, refl, ap, ◌∙◌, inl, inr, le_trans, mul-le-mul_right, mul-le-mul_left, zero-mul, arith}
 use native.Mathlib.Decide.{ℕ_discrete}
+use Rattle.std.proofs.lemmas.Bool.{cases_lt, and_parts, both_ways, cases_Bool}
 use lib.Signed.{lt_z}
 use borrow.Author.Differences.{ints}
-use Rattle.std.proofs.lemmas.Bool.{cases_lt, and_parts, both_ways, cases_Bool}
 use Rattle.tariff.specs.Tariff.{link}
 use Rattle.model.specs.Limits.{longest}
 use Rattle.model.specs.Session.{Session, able, waiting, lead, below_zero}
-use Rattle.model.specs.Table.{Table, at, least, sooner}
+use Rattle.model.specs.Table.{Table, at, total, least, sooner}
 use Rattle.model.specs.Meaning.{Meaning}
 use Rattle.model.specs.Cell.{Cell}
 use Rattle.model.specs.Calls.{Call, step}

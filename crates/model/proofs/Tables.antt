@@ -1,10 +1,9 @@
 -- Facts about a table of places: one place read, one place changed, sums over all places.
 use Rattle.std.proofs.Common.{◌≡◌, ℕ, zero, suc, ◌+◌, ◌*◌, ◌<◌, ◌≤◌, Bool, true, false, cond, ◌⊎◌, [], ◌∷◌, length, get_or, set, replicate, ℤ, pos, ◌+ℤ◌, Some, None, Option, sym, refl, ap, ◌∙◌, subst, inl, inr, arith}
 use borrow.Author.Differences.{ints}
-use Rattle.std.specs.Option.{option_map}
 use Rattle.std.proofs.lemmas.Bool.{cases_Bool, both_ways, cond-true}
 use Rattle.model.specs.Session.{Session, vacant}
-use Rattle.model.specs.Table.{Table, at, change, vacancies, total, totalℤ, first}
+use Rattle.model.specs.Table.{Table, at, change, vacancies, total, totalℤ, first, next}
 
 pub length_change : (t : Table) (k : ℕ) (f : Session → Session) → length (change t k f) ≡ length t
 unfolding change
@@ -83,19 +82,19 @@ total_drop f g r c (s ∷ t) h = omega (arith, h 0, total_drop f g r c t (λ j. 
 
 -- ---- searches
 
-some_0 : (b : Bool) (o : Option ℕ) (k : ℕ) → cond b (Some 0) (option_map suc o) ≡ Some k →
+some_0 : (b : Bool) (o : Option ℕ) (k : ℕ) → cond b (Some 0) (next o) ≡ Some k →
     ((b ≡ true) × (0 ≡ k)) ⊎ ((j : ℕ) × (o ≡ Some j) × (suc j ≡ k))
 some_0 true o k e = inl (refl, cc)
 some_0 false None k e = let z : ◌≡◌ {A = ℕ} 0 1 = cc in absurd (omega arith)
 some_0 false (Some j) k e = inr (j, refl, cc)
 
-none_0 : (b : Bool) (o : Option ℕ) → cond b (Some 0) (option_map suc o) ≡ None → (b ≡ false) × (o ≡ None)
+none_0 : (b : Bool) (o : Option ℕ) → cond b (Some 0) (next o) ≡ None → (b ≡ false) × (o ≡ None)
 none_0 true o e = let z : ◌≡◌ {A = ℕ} 0 1 = cc in absurd (omega arith)
 none_0 false None e = (refl, refl)
 none_0 false (Some j) e = let z : ◌≡◌ {A = ℕ} 0 1 = cc in absurd (omega arith)
 
 pub first_found : (p : Session → Bool) (t : Table) (k : ℕ) → first p t ≡ Some k → (k < length t) × (p (at t k) ≡ true)
-unfolding at
+unfolding at first
 first_found p [] k e = let z : ◌≡◌ {A = ℕ} 0 1 = cc in absurd (omega arith)
 first_found p (s ∷ t) k e = by (some_0 (p s) (first p t) k e) (λ j h. first_found p t j h)
   where
@@ -107,14 +106,14 @@ first_found p (s ∷ t) k e = by (some_0 (p s) (first p t) k e) (λ j h. first_f
 
 pub first_before : (p : Session → Bool) (t : Table) (k : ℕ) → first p t ≡ Some k → (j : ℕ) → j < k →
     p (at t j) ≡ false
-unfolding at
+unfolding at first
 first_before p [] k e j l = let z : ◌≡◌ {A = ℕ} 0 1 = cc in absurd (omega arith)
 first_before p (s ∷ t) k e j l = by (cases_Bool (p s)) (λ i h j l. first_before p t i h j l) j l
   where
     by : (p s ≡ true) ⊎ (p s ≡ false) → ((i : ℕ) → first p t ≡ Some i → (j : ℕ) → j < i → p (at t j) ≡ false) →
         (j : ℕ) → j < k → p (at (s ∷ t) j) ≡ false
     by (inl h) ih j l =
-        let z : Some 0 ≡ Some k = sym (cond-true (p s) (Some 0) (option_map suc (first p t)) h) ∙ e in
+        let z : Some 0 ≡ Some k = sym (cond-true (p s) (Some 0) (next (first p t)) h) ∙ e in
         let y : 0 ≡ k = cc in
         absurd (omega arith)
     by (inr h) ih zero l = h
@@ -125,17 +124,15 @@ first_before p (s ∷ t) k e j l = by (cases_Bool (p s)) (λ i h j l. first_befo
         after (inr g) = ih g.0 g.1 j (omega (arith, g.2))
 
 pub first_none : (p : Session → Bool) (t : Table) → p vacant ≡ false → first p t ≡ None → (j : ℕ) → p (at t j) ≡ false
-unfolding at
+unfolding at first
 first_none p [] v e j = v
 first_none p (s ∷ t) v e zero = (none_0 (p s) (first p t) e).0
 first_none p (s ∷ t) v e (suc j) = first_none p t v (none_0 (p s) (first p t) e).1 j
 
-pub first_never : (p : Session → Bool) (t : Table) → ((j : ℕ) → j < length t → p (at t j) ≡ false) → first p t ≡ None
-unfolding at
+pub first_never : (p : Session → Bool) (t : Table) → ((j : ℕ) → p (at t j) ≡ false) → first p t ≡ None
+unfolding at first
 first_never p [] h = refl
-first_never p (s ∷ t) h =
-    ap (λ (b : Bool). cond b (Some 0) (option_map suc (first p t))) (h 0 (omega arith))
-    ∙ ap (option_map suc) (first_never p t (λ j l. h (suc j) (omega arith)))
+first_never p (s ∷ t) h = ap (λ (b : Bool). cond b (Some 0) (next (first p t))) (h 0) ∙ ap next (first_never p t (λ j. h (suc j)))
 
 pub change_past : (t : Table) (k : ℕ) (f : Session → Session) → length t ≤ k → change t k f ≡ t
 unfolding change

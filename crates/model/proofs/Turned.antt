@@ -5,15 +5,15 @@ use Rattle.std.proofs.lemmas.Bool.{and_parts}
 use Rattle.tariff.specs.Tariff.{link}
 use Rattle.model.specs.Limits.{longest}
 use Rattle.model.specs.Session.{Session, able, waiting}
-use Rattle.model.specs.Table.{Table, at, total, active_count, owing}
+use Rattle.model.specs.Table.{Table, at, total, active_count}
 use Rattle.model.specs.Turn.{Way, sender, turned, owed}
 use Rattle.model.specs.Departures.{departures, gone}
 use Rattle.model.specs.Cell.{mark_after}
-use Rattle.model.proofs.Ledger.{Draft, Book, excess}
+use Rattle.model.proofs.Ledger.{Draft, Book, excess, owing}
 use Rattle.model.proofs.Settle.{Held, settle, mark_rises, mark_pays}
 use Rattle.model.proofs.Departures.{depart_draft, depart_same, depart_total, depart_waits, depart_owes, departures_busy}
 use Rattle.model.proofs.Senders.{Rightly, Chosen}
-use Rattle.model.proofs.Ways.{way_draft, way_pays, way_owes, way_same, Part, named, way_part}
+use Rattle.model.proofs.Turn.{way_draft, way_pays, way_owes, way_same, Part, named, way_part}
 
 module _ (keep m : ℕ) (t : Table) (c : ℕ) (w : Way) (n : ℕ) (b : Book m t) (k : Chosen m t c) (r : Rightly t (at t c) w) (l : n ≤ longest) where
   abbrev pub end : Table

@@ -19,8 +19,7 @@ use Rattle.model.specs.Sound.{Books, Midway, Sound, InOrder}
 use Rattle.model.proofs.Tables.{total_le}
 use Rattle.model.proofs.Departures.{midway_of}
 use Rattle.model.proofs.Senders.{lag_within, sound_offer, sound_stayed, decides, chosen_is}
-use Rattle.model.proofs.Turn.{way_fits}
-use Rattle.model.proofs.Ways.{way_draft, way_owes}
+use Rattle.model.proofs.Turn.{way_fits, way_draft, way_owes}
 use Rattle.model.proofs.Bounds.{Low, dear, turned_low}
 use Rattle.model.proofs.Queues.{sender_inside}
 use Rattle.model.proofs.Books.{ordered_of, within_of, new_sound, step_sound}

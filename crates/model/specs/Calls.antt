@@ -71,13 +71,11 @@ asked x place = known (first_refusal (on_open_place x place [])) (at x.table pla
 
 -- ---- what an accepted call leaves and answers
 
--- the virtual time at which a session goes on when a frame arrives: an inactive one does not start below the mark
-abbrev pub start : ℕ → Session → ℕ
-start mark s = cond s.active s.virtual_time (max s.virtual_time mark)
-
--- a frame is queued, and the session is active
+-- a frame queued; an inactive session becomes active, at the mark or above it
 abbrev pub arrived : ℕ → Frame → Session → Session
-arrived mark f s = with_virtual_time (start mark s) (with_active true (with_queue (s.queue ++ f ∷ []) s))
+arrived mark f s =
+    with_virtual_time (cond s.active s.virtual_time (max s.virtual_time mark))
+    (with_active true (with_queue (s.queue ++ f ∷ []) s))
 
 -- the place found; none stands for 0 here, since a turn without an active session is refused
 abbrev pub found : Option ℕ → ℕ

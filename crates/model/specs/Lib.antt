@@ -9,7 +9,6 @@ pub mod Cell
 pub mod Calls
 pub mod Laws
 pub mod Sound
-pub mod Reasons
 pub mod History
 pub mod Promises
 pub mod Figures

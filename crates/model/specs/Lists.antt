@@ -27,12 +27,8 @@ entry_of l s = entry (in_line l s) s
 abbrev pub offer : Line → Table → List Entry
 offer l t = map (entry_of l) t
 
--- what an offer of those who stayed says of one place, given whether it stood in the list before
-abbrev pub stay : Line → Bool → Session → Entry
-stay l before s = entry (before && in_line l s) s
-
 -- those who stood in it before and still do, with their lags now
 unfoldable pub stayed : Line → List Bool → Table → List Entry
 stayed l [] t = []
 stayed l (b ∷ bs) [] = []
-stayed l (b ∷ bs) (s ∷ t) = stay l b s ∷ stayed l bs t
+stayed l (b ∷ bs) (s ∷ t) = entry (b && in_line l s) s ∷ stayed l bs t

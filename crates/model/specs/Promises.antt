@@ -10,12 +10,11 @@ use Rattle.chooser.specs.Offers.{lag_bound}
 use Rattle.tariff.specs.Tariff.{link}
 use Rattle.model.specs.Limits.{places, longest, most_waiting, most_turns, idle_length, quarters, furthest}
 use Rattle.model.specs.Session.{able, waiting, leads, lead}
-use Rattle.model.specs.Table.{at, lag_total, booked_total, active_count}
+use Rattle.model.specs.Table.{at, totalℤ, booked_total}
 use Rattle.model.specs.Meaning.{Meaning}
 use Rattle.model.specs.Cell.{Cell}
 use Rattle.model.specs.Calls.{Call, closing, turn, refusals, step}
 use Rattle.model.specs.Sound.{Sound}
-use Rattle.model.specs.Reasons.{sender_of, Reason, Debt}
 use Rattle.model.specs.History.{frame_of, taken_from, brought_to, bytes, sum_to}
 use Rattle.model.specs.History.{after, sent, sent_by, brought, Always, Throughout, Able}
 
@@ -56,32 +55,6 @@ module _ {C : Type 0} (M : Meaning C) where
       ((at x.table a.chosen).active ≡ true) ×
       ((j : ℕ) → (at x.table j).active ≡ true → v ≤ (at x.table j).virtual_time) ×
       ((j : ℕ) → (at x.table j).active ≡ true → j < a.chosen → v < (at x.table j).virtual_time))
-
-  -- The kind of a turn says why it went to whom it went. So nobody who is owed and able is passed over for one who is owed
-  -- nothing, or for one who leads beyond its allowance.
-  abbrev pub SaysWhy : Type 0
-  SaysWhy =
-      Throughout M (λ x. (a : Turn) → (step M x turn).answer ≡ Ok (Turned a) →
-      Reason x.table a.chosen (sender_of a.sent) a.kind)
-
-  -- A turn is charged to the chosen session, whoever sends: its virtual time rises by the answer's length times its price, and
-  -- no other virtual time moves.
-  abbrev pub ChargesTheChosen : Type 0
-  ChargesTheChosen =
-      Throughout M (λ x. (a : Turn) → (step M x turn).answer ≡ Ok (Turned a) →
-      let s = at x.table a.chosen in
-      let y = (step M x turn).cell in
-      ((at y.table a.chosen).virtual_time ≡ s.virtual_time + a.length * s.price) ×
-      ((i : ℕ) → (a.chosen ≢ i) → (at y.table i).virtual_time ≡ (at x.table i).virtual_time))
-
-  -- What another sends in a session's turn is written down: the chosen's lag rises by the answer's length, the sender's falls by
-  -- it. Nothing else moves a lag but a departure: said of the turns after which as many sessions are active as before.
-  abbrev pub WritesDownTheDebt : Type 0
-  WritesDownTheDebt =
-      Throughout M (λ x. (a : Turn) → (step M x turn).answer ≡ Ok (Turned a) →
-      let y = (step M x turn).cell in
-      active_count y.table ≡ active_count x.table →
-      Debt a.chosen a.length (sender_of a.sent) x.table y.table)
 
   -- ---- frames
 
@@ -126,7 +99,7 @@ module _ {C : Type 0} (M : Meaning C) where
   -- The lags of all sessions add up to zero, and an inactive session's lag is zero.
   abbrev pub AlwaysBalanced : Type 0
   AlwaysBalanced =
-      Throughout M (λ x. (lag_total x.table ≡ pos 0) ×
+      Throughout M (λ x. (totalℤ (λ s. s.lag) x.table ≡ pos 0) ×
       ((i : ℕ) → (at x.table i).active ≡ false → (at x.table i).lag ≡ pos 0))
 
   -- A place is active exactly when a frame waits or it leads.
@@ -175,9 +148,6 @@ module _ {C : Type 0} (M : Meaning C) where
     pub share : GetsItsShare
     pub idles : IdlesOnlyIfNoneAble
     pub chooses : ChoosesTheLeastAdvanced
-    pub why : SaysWhy
-    pub charges : ChargesTheChosen
-    pub debts : WritesDownTheDebt
     pub says : SendsWhatItSays
     pub counts : CountsEveryByte
     pub balance : AlwaysBalanced

@@ -1,6 +1,5 @@
 -- A session: what a cell knows of one of its places.
-use Rattle.std.specs.Prelude.{ℕ, suc, Bool, true, false, not, ◌&&◌, List, [], ℤ, pos, negsuc, int_lt}
-use Rattle.queue.specs.Fifo.{is_empty}
+use Rattle.std.specs.Prelude.{ℕ, suc, Bool, true, false, ◌&&◌, List, [], ◌∷◌, ℤ, pos, negsuc, int_lt}
 pub use Rattle.queue.specs.declared.frame.Frame.{Frame}
 
 -- The lag is what the session is owed, in bytes, and below 0 what it has had too much. A place that is not open is `vacant`.
@@ -44,9 +43,13 @@ fresh rate price = record {
 
 -- ---- what a session is
 
+abbrev pub some_wait : List Frame → Bool
+some_wait [] = false
+some_wait (f ∷ fs) = true
+
 -- a frame waits
 abbrev pub waiting : Session → Bool
-waiting s = not (is_empty s.queue)
+waiting s = some_wait s.queue
 
 -- it could send now
 abbrev pub able : Session → Bool

@@ -4,8 +4,8 @@ use Rattle.std.specs.Prelude.{◌≡◌, ℕ, ◌+◌, ◌*◌, ◌<◌, ◌≤�
 use Rattle.std.specs.List.{AllByRecursion as All}
 use Rattle.tariff.specs.Tariff.{link}
 use Rattle.model.specs.Limits.{places, longest, most_waiting, most_turns, quarters, dearest}
-use Rattle.model.specs.Session.{Frame, Session, vacant, waiting, leads}
-use Rattle.model.specs.Table.{Table, at, lag_total, owing, booked_total, least}
+use Rattle.model.specs.Session.{Frame, Session, vacant, waiting, leads, above_zero}
+use Rattle.model.specs.Table.{Table, at, total, totalℤ, booked_total, least}
 use Rattle.model.specs.Cell.{Cell}
 
 abbrev pub Fits : Frame → Type 0
@@ -28,8 +28,8 @@ pub record Books (keep mark turns : ℕ) (t : Table) : Type 0 where
   pub size : length t ≡ places
   pub rows : (j : ℕ) → Orderly mark turns (at t j)
   pub rates : booked_total t ≤ link
-  pub balance : lag_total t ≡ pos 0
-  pub owing : owing t ≤ longest * turns
+  pub balance : totalℤ (λ s. s.lag) t ≡ pos 0
+  pub owing : total (λ s. above_zero s.lag) t ≤ longest * turns
   pub lowest : (v : ℕ) → least t ≡ Some v → v ≡ mark
   pub early : mark ≤ dearest * turns
   pub few : turns ≤ most_turns
@@ -39,8 +39,8 @@ pub record Books (keep mark turns : ℕ) (t : Table) : Type 0 where
 pub record Midway (most : ℕ) (t : Table) : Type 0 where
   pub size : length t ≡ places
   pub rates : booked_total t ≤ link
-  pub balance : lag_total t ≡ pos 0
-  pub owing : owing t ≤ most
+  pub balance : totalℤ (λ s. s.lag) t ≡ pos 0
+  pub owing : total (λ s. above_zero s.lag) t ≤ most
   pub quiet : (j : ℕ) → (at t j).active ≡ false → (at t j).lag ≡ pos 0
   pub counted : (j : ℕ) → (at t j).active ≡ true → 0 < (at t j).rate
 

@@ -1,7 +1,6 @@
 -- The table of places: reading one, changing one, sums over all, and who is next.
 use Rattle.std.specs.Prelude.{ℕ, zero, suc, ◌+◌, min, max, Bool, true, false, cond, ◌&&◌, List, [], ◌∷◌, ℤ, pos, ◌+ℤ◌, Some, None, Option, ◌==◌}
-use Rattle.model.specs.Session.{Session, vacant, above_zero}
-pub use Rattle.keys.specs.Least.{first}
+use Rattle.model.specs.Session.{Session, vacant}
 
 abbrev pub Table : Type 0
 Table = List Session
@@ -36,14 +35,6 @@ totalℤ f (s ∷ t) = f s +ℤ totalℤ f t
 abbrev pub booked_total : Table → ℕ
 booked_total t = total (λ s. s.rate) t
 
--- the lags of all places, added up
-abbrev pub lag_total : Table → ℤ
-lag_total t = totalℤ (λ s. s.lag) t
-
--- what all lagging sessions together are owed
-abbrev pub owing : Table → ℕ
-owing t = total (λ s. above_zero s.lag) t
-
 abbrev pub one_if : Bool → ℕ
 one_if b = cond b 1 0
 
@@ -51,7 +42,16 @@ one_if b = cond b 1 0
 abbrev pub active_count : Table → ℕ
 active_count t = total (λ s. one_if s.active) t
 
--- ---- searches; `first` gives the lowest place that passes a test
+-- ---- searches
+
+abbrev pub next : Option ℕ → Option ℕ
+next None = None
+next (Some k) = Some (suc k)
+
+-- the lowest place that passes a test
+unfoldable pub first : (Session → Bool) → Table → Option ℕ
+first p [] = None
+first p (s ∷ t) = cond (p s) (Some 0) (next (first p t))
 
 abbrev pub sooner : Bool → ℕ → Option ℕ → Option ℕ
 sooner false v r = r

@@ -4,11 +4,9 @@ use Rattle.answer.specs.declared.turn.Kind.{Kind}
 use Rattle.answer.specs.declared.turn.Kind.TheVariants.{Normal, Credit as OnCredit, Kept, Extra as OnExtra, Idle}
 use Rattle.answer.specs.declared.turn.Sent.{Sent}
 use Rattle.answer.specs.declared.turn.Turn.{Turn}
-use Rattle.queue.specs.Ring.{no_frame}
 use Rattle.model.specs.Limits.{idle_length, quarters}
 use Rattle.model.specs.Session.{Frame, Session, able, leads, with_virtual_time, with_lag, with_allowance, with_queue}
 use Rattle.model.specs.Table.{Table, at, change}
-pub use Rattle.queue.specs.Fifo.{rest}
 
 -- ---- who sends
 
@@ -59,10 +57,13 @@ kind idle = Idle
 
 -- ---- what it sends
 
--- the frame that has waited longest; of no frames, none
 abbrev pub front : List Frame → Frame
-front [] = no_frame
+front [] = record { tag = 0; length = 0 }
 front (f ∷ fs) = f
+
+abbrev pub rest : List Frame → List Frame
+rest [] = []
+rest (f ∷ fs) = fs
 
 abbrev pub length_of : Table → Option ℕ → ℕ
 length_of t None = idle_length
@@ -81,15 +82,15 @@ answer_of t c w = record { chosen = c; sent = sent_of t (sender c w); length = l
 abbrev pub popped : Session → Session
 popped s = with_queue (rest s.queue) s
 
--- an allowance that earns so much and spends so much; it moves only while the session leads
-abbrev pub allowed : ℕ → ℕ → Session → ℤ
-allowed earned spent s = cond (leads s) (s.allowance +ℤ pos earned -ℤ pos spent) s.allowance
+-- what an allowance becomes by a charge, of which it spends so many quarters; it moves only while the session leads
+abbrev pub allowed : ℕ → ℕ → ℕ → Session → ℤ
+allowed keep spent charge s =
+    cond (leads s) (s.allowance +ℤ pos (keep * charge) -ℤ pos (spent * charge)) s.allowance
 
--- it is charged for n bytes at its price; of the charge its allowance earns `keep` quarters, and spends `spent`
 abbrev pub charged : ℕ → ℕ → ℕ → Session → Session
 charged keep spent n s =
-    let charge = n * s.price in
-    with_virtual_time (s.virtual_time + charge) (with_allowance (allowed (keep * charge) (spent * charge) s) s)
+    with_virtual_time (s.virtual_time + n * s.price)
+    (with_allowance (allowed keep spent (n * s.price) s) s)
 
 -- it is owed n bytes more
 abbrev pub owed : ℕ → Session → Session

@@ -1,5 +1,5 @@
 -- Frames wait in a list, first in first out, and at most 32 of them.
-use Rattle.std.specs.Prelude.{ℕ, Bool, true, false, cond, List, [], ◌∷◌, ◌++◌, length, Some, None, Ok, Err, Option, Result, nat_le}
+use Rattle.std.specs.Prelude.{ℕ, Bool, cond, List, [], ◌∷◌, ◌++◌, length, Some, None, Ok, Err, Option, Result, ◌==◌, nat_le}
 use Rattle.answer.specs.declared.refusal.Refusal.{Refusal}
 use Rattle.answer.specs.declared.refusal.Refusal.TheVariants.{QueueFull}
 use Rattle.queue.specs.declared.frame.Frame.{Frame}
@@ -12,8 +12,7 @@ abbrev pub is_full : List Frame → Bool
 is_full q = nat_le room (length q)
 
 abbrev pub is_empty : List Frame → Bool
-is_empty [] = true
-is_empty (f ∷ q) = false
+is_empty q = length q == 0
 
 -- the frame that has waited longest, and those that stay when it leaves
 abbrev pub front : List Frame → Option Frame

@@ -1,17 +1,15 @@
 -- The frames that a ring holds, as a list.
 use Rattle.std.specs.Prelude.{ℕ, zero, suc, ◌+◌, ◌%◌, List, [], ◌∷◌, slice_index_or}
-use Rattle.queue.specs.Fifo.{room}
 use Rattle.queue.specs.declared.frame.Frame.{Frame}
 use Rattle.queue.specs.declared.ring.Ring.{Ring}
 
--- what stands where no frame does
 abbrev pub no_frame : Frame
 no_frame = record { tag = 0; length = 0 }
 
--- n frames of a ring, from a place on
+-- n frames of a ring of 32, from a place on
 abbrev pub around : List Frame → ℕ → ℕ → List Frame
 around frames head zero = []
-around frames head (suc n) = slice_index_or frames head no_frame ∷ around frames ((head + 1) % room) n
+around frames head (suc n) = slice_index_or frames head no_frame ∷ around frames ((head + 1) % 32) n
 
 unfoldable pub held : Ring → List Frame
 held r = around r.frames r.head r.count

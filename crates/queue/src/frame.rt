@@ -1,5 +1,4 @@
 // A frame as the cell sees it: what it is called, and how many bytes it takes on the air.
-#[repr(C)]
 #[derive(Clone, Copy, PartialEq, Eq, Debug)]
 pub struct Frame {
     pub tag: u32,

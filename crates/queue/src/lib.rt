@@ -1,4 +1,6 @@
 // Frames, and the queue in which a session's frames wait.
+#![tactic(auto)]
+
 ghost use Rattle.std.specs.Prelude.{◌≡◌, [], length};
 ghost use Rattle.std.specs.List.{slice_get};
 ghost use Rattle.queue.specs.Fifo.{is_empty, front, rest, push_answer, pushed};
@@ -15,7 +17,6 @@ use ring::Ring;
 use slots::ROOM;
 
 // At most 32 frames, first in first out, in memory of its own.
-#[repr(C)]
 #[derive(Clone, Copy)]
 pub struct Queue {
     ring: Ring,

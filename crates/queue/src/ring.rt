@@ -3,7 +3,6 @@ ghost use Rattle.std.specs.Prelude.{◌<◌, ◌≤◌};
 
 use super::frame::Frame;
 
-#[repr(C)]
 #[derive(Clone, Copy)]
 pub struct Ring {
     pub(crate) frames: [Frame; 32],

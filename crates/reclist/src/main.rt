@@ -1,4 +1,6 @@
 // Prints a recording in words, event by event, and what it adds up to.
+#![tactic(auto)]
+
 ghost use Rattle.std.specs.Prelude.{IfOk};
 ghost use Rattle.reclist.specs.Tallies.{Small};
 

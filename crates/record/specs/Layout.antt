@@ -21,12 +21,8 @@ value_at = 4
 abbrev pub note_at : ℕ
 note_at = 8
 
--- bytes of a note, which is the rest of the record
-abbrev pub note_size : ℕ
-note_size = 8
-
 abbrev pub record_end : ℕ
-record_end = note_at + note_size
+record_end = 16
 
 -- what a letter leaves unused, from one byte up to another: all but T use the place, A alone the length, O and A the value
 abbrev pub unused : Letter → ℕ × ℕ

@@ -11,7 +11,7 @@ use Rattle.answer.specs.declared.turn.Kind.TheVariants.{Normal, Credit, Kept, Ex
 use Rattle.answer.specs.declared.turn.Sent.{Sent}
 use Rattle.answer.specs.declared.turn.Turn.{Turn}
 use Rattle.record.specs.Letters.{code, byte_of}
-use Rattle.record.specs.Layout.{Contents, note_size}
+use Rattle.record.specs.Layout.{Contents}
 
 abbrev pub kind_byte : Kind → ℕ
 kind_byte Normal = code "n"
@@ -46,17 +46,13 @@ newline = 10 ∷ []
 abbrev pub head_text : ℕ → ℕ → Result Answer Refusal → List ℕ
 head_text number letter result = decimal number ++ (codes " " ++ (letter ∷ (codes " " ++ result_text result)))
 
--- of a note that is too long, the first eight bytes
+-- of a note that is longer than eight bytes, the first eight
 abbrev pub line_text : ℕ → Contents → Result Answer Refusal → List ℕ
-line_text number c result = head_text number (byte_of c.letter) result ++ (codes " " ++ (take note_size c.note ++ newline))
+line_text number c result = head_text number (byte_of c.letter) result ++ (codes " " ++ (take 8 c.note ++ newline))
 
 abbrev pub fault_text : ℕ → Refusal → List ℕ
 fault_text number why = head_text number (code "?") (Err why) ++ newline
 
--- bytes of the room that is asked for: every line is shorter
-abbrev pub line_room : ℕ
-line_room = 64
-
--- what a call for a line answers: its length, if there is the room
+-- what a call for a line answers: its length, if there is room for the longest
 abbrev pub lining : List ℕ → List ℕ → Result ℕ Refusal
-lining text out = cond (nat_lt (length out) line_room) (Err BufferTooShort) (Ok (length text))
+lining text out = cond (nat_lt (length out) 64) (Err BufferTooShort) (Ok (length text))

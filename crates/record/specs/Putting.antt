@@ -1,7 +1,6 @@
 -- One step of making a line: a text goes into a buffer at a place, and the next place is the answer.
 use Rattle.std.specs.Prelude.{◌≡◌, ℕ, ◌+◌, ◌<◌, List, ◌++◌, length, take, drop}
 use Rattle.record.specs.Writing.{over}
-use Rattle.record.specs.Lines.{line_room}
 
 -- the buffer with a text in it from a place on
 abbrev pub pasted : List ℕ → ℕ → List ℕ → List ℕ
@@ -15,4 +14,4 @@ pub record Put (out : List ℕ) (at : ℕ) (text now : List ℕ) (r : ℕ) : Typ
 pub record Lined (out text now : List ℕ) (r : ℕ) : Type 0 where
   pub after : now ≡ over text out
   pub end : r ≡ length text
-  pub short : r < line_room
+  pub short : r < 64

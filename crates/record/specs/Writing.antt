@@ -2,7 +2,7 @@
 use Rattle.std.specs.Prelude.{ℕ, Bool, cond, not, ◌&&◌, List, ◌++◌, length, drop, is_some, is_ok, Ok, Err, Result, ◌==◌, nat_lt}
 use Rattle.answer.specs.declared.fault.Fault.{Fault}
 use Rattle.answer.specs.declared.refusal.Refusal.TheVariants.{NoteNotPrintable, BufferTooShort}
-use Rattle.record.specs.Layout.{Contents, encoded, note_at, note_size, record_end}
+use Rattle.record.specs.Layout.{Contents, encoded, note_at, record_end}
 use Rattle.record.specs.Reading.{fault, first_unprintable}
 
 -- a buffer with a text over its front
@@ -13,9 +13,9 @@ over text out = text ++ drop (length text) out
 abbrev pub after : {X E : Type 0} → Result X E → List ℕ → List ℕ → List ℕ
 after answer text out = cond (is_ok answer) (over text out) out
 
--- as many printable bytes as a note has
+-- eight printable bytes
 abbrev pub is_note : List ℕ → Bool
-is_note note = length note == note_size && not (is_some (first_unprintable note))
+is_note note = length note == 8 && not (is_some (first_unprintable note))
 
 abbrev pub writing : Contents → List ℕ → Result (Unit {0}) Fault
 writing c out =

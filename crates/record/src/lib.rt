@@ -1,4 +1,6 @@
 // Events as records of sixteen bytes: reading, writing, and the line that tells of each.
+#![tactic(auto)]
+
 mod event;
 mod layout;
 mod letter;
@@ -11,5 +13,4 @@ pub use event::Event;
 pub use letter::Letter;
 pub use lines::{fault_line, line};
 pub use reader::read;
-pub use text::kind_byte;
 pub use writer::write;

@@ -125,9 +125,9 @@ fn a_note_of_another_length_is_refused(rt: HostRuntime) {
             refused(
                 &Event::Good {
                     place: 1,
-                    note: &text[0..n],
+                    note: &text[0..n]
                 },
-                &mut out,
+                &mut out
             ),
             expected
         );
@@ -156,9 +156,9 @@ fn a_note_that_is_not_printable_is_refused(rt: HostRuntime) {
                 refused(
                     &Event::Bad {
                         place: 1,
-                        note: &note,
+                        note: &note
                     },
-                    &mut out,
+                    &mut out
                 ),
                 expected
             );

@@ -27,8 +27,7 @@ pub fn apply<C: Chooser>(cell: &mut Cell<C>, event: Event, number: u64) -> Resul
     }
 }
 
-// The same without a record.
-pub fn call<C: Chooser>(cell: &mut Cell<C>, event: Event) -> Result<Answer, Refusal>
+fn call<C: Chooser>(cell: &mut Cell<C>, event: Event) -> Result<Answer, Refusal>
     ensures answer { result ≡ (step (meaning pick after_served after_joined after_cleared) (view cell.old) (call_of event.entry)).answer }
     ensures after { view cell.new ≡ (step (meaning pick after_served after_joined after_cleared) (view cell.old) (call_of event.entry)).cell }
 {

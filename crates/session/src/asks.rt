@@ -1,8 +1,8 @@
 // What can be asked of one place.
 ghost use Rattle.std.specs.Prelude.{◌≡◌};
-ghost use Rattle.model.specs.Lists.{in_line, entry, stay};
+ghost use Rattle.model.specs.Lists.{in_line, entry};
 ghost use Rattle.model.specs.Session.{waiting, able, lags, leads};
-ghost use Rattle.session.specs.Seen.{seen, time_key};
+ghost use Rattle.session.specs.Seen.{seen, stay, time_key};
 
 use super::row::Row;
 use chooser::{Entry, Line};

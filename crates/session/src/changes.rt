@@ -1,9 +1,8 @@
 // What a call makes of one place.
 ghost use Rattle.std.specs.Prelude.{◌≡◌};
-ghost use Rattle.model.specs.Calls.{start};
 ghost use Rattle.model.specs.Session.{vacant, fresh, with_good};
 ghost use Rattle.queue.specs.Fifo.{push_answer};
-ghost use Rattle.session.specs.Seen.{seen, received};
+ghost use Rattle.session.specs.Seen.{seen, start, received};
 
 use super::row::Row;
 use answer::Refusal;

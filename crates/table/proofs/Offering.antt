@@ -1,16 +1,15 @@
 -- Lists made from a table place by place.
-use Rattle.std.proofs.Common.{◌≡◌, ℕ, zero, suc, ◌<◌, Bool, true, ◌&&◌, List, [], ◌∷◌, map, length, get_or, replicate, refl, ap, ◌∙◌, arith}
+use Rattle.std.proofs.Common.{◌≡◌, ℕ, zero, suc, ◌<◌, Bool, true, false, ◌&&◌, List, [], ◌∷◌, map, length, get_or, replicate, sym, refl, ap, ◌∙◌, arith}
 use Rattle.std.proofs.lemmas.List.{length-map, get_or-map}
 use Rattle.chooser.specs.declared.entry.Entry.{Entry}
 use Rattle.chooser.specs.declared.entry.Line.{Line}
-use Rattle.model.specs.Lists.{in_line, entry, offer, stayed}
+use Rattle.model.specs.Lists.{in_line, in_list, entry, offer, stayed}
 use Rattle.model.specs.Session.{Session}
 use Rattle.model.specs.Table.{Table}
 use Rattle.session.specs.Seen.{seen}
 use Rattle.session.specs.declared.row.Row.{Row}
 use Rattle.table.specs.Places.{table_of}
 use Rattle.table.proofs.Tables.{length_table, getD_table}
-pub use Rattle.model.proofs.Senders.{length_stayed}
 
 -- a list made of each session by a function
 pub length_made : {Y : Type 0} (f : Session → Y) (rows : List Row) → length (map f (table_of rows)) ≡ length rows
@@ -21,6 +20,12 @@ pub getD_made : {Y : Type 0} (f : Session → Y) (rows : List Row) (i : ℕ) (d 
 getD_made f rows i d e l =
     let m : i < length (table_of rows) = omega (arith, length_table rows) in
     get_or-map f (table_of rows) i (seen d) e m ∙ ap f (getD_table rows i d (seen d) l)
+
+pub length_stayed : (l : Line) (bs : List Bool) (t : Table) → length bs ≡ length t → length (stayed l bs t) ≡ length bs
+unfolding stayed
+length_stayed l [] t e = refl
+length_stayed l (b ∷ bs) [] e = absurd (omega arith)
+length_stayed l (b ∷ bs) (s ∷ t) e = ap suc (length_stayed l bs t (omega arith))
 
 pub getD_stayed : (l : Line) (bs : List Bool) (t : Table) (i : ℕ) (e : Entry) (b : Bool) (d : Session) → length bs ≡ length t →
     i < length bs → get_or (stayed l bs t) i e ≡ entry (get_or bs i b && in_line l (get_or t i d)) (get_or t i d)

@@ -1,13 +1,13 @@
 -- A table of the tariff is tested once as a whole, and the test turned into the rule at each entry.
-use Rattle.std.proofs.Common.{◌≡◌, ℕ, zero, suc, ◌+◌, ◌*◌, ◌/◌, ◌%◌, ◌<◌, ◌≤◌, Bool, true, false, not, ◌&&◌, ◌||◌, eqb, ltb, List, [], ◌∷◌, length, get_or, is_ok, Ok, Err, Result, sym, ap, ◌∙◌, subst, ⊎_elim, mul_comm, mul-le-mul, zero-mul, mul-div_cancel, add-one, arith, MatchResult}
-use native.Mathlib.Nat.{mul-div_cancel', dvd_of_mod-eq-zero, mul-mod_right}
+use Rattle.std.proofs.Common.{◌≡◌, ℕ, zero, suc, ◌+◌, ◌*◌, ◌/◌, ◌%◌, ◌<◌, ◌≤◌, Bool, true, false, not, ◌&&◌, ◌||◌, eqb, ltb, ◌⊎◌, List, [], ◌∷◌, length, get_or, is_ok, Ok, Err, Decides, Result, sym, refl, ap, ◌∙◌, subst, inl, inr, ⊎_elim, mul_comm, mul-le-mul, mul-zero, zero-mul, mul-div_cancel, add-one, arith, rules, MatchResult}
+use native.Mathlib.Nat.{mul-div_cancel', dvd_of_mod-eq-zero, mul-mod_right, mul-mod_left}
+use Rattle.std.specs.Ordering.{nat_cmp}
 use Rattle.std.specs.List.Sorted.{IsBinarySearchResult}
-use Rattle.std.specs.List.{ContainsAt as Has}
 use Rattle.std.proofs.lemmas.List.{get_or_default}
 use Rattle.std.proofs.lemmas.List.Sorted.{searched, IsNonDecreasingBy-from_all_adjacent}
-use Rattle.std.proofs.lemmas.Bool.{and_parts, and_from, or_cases, eqb-true, eq-eqb, lt-ltb, ltb-true, cases_Bool, cases_lt, not-true, both_ways}
+use Rattle.std.specs.List.{ContainsAt as Has, HoldsAt}
+use Rattle.std.proofs.lemmas.Bool.{and_parts, and_from, or_cases, or_left, or_right, eqb-true, eq-eqb, lt-ltb, ltb-true, cases_Bool, cases_lt, not-true, both_ways}
 use Rattle.tariff.specs.Tariff.{in_tariff, Whole}
-use Rattle.std.specs.Ordering.{nat_cmp}
 
 -- the test: each entry is larger than the one before it, and divides
 abbrev rising : ℕ → List ℕ → Bool
@@ -52,10 +52,7 @@ pairs_at : (xs : List ℕ) (n : ℕ) → pairs xs n ≡ true → (k : ℕ) → k
 pairs_at xs zero t k h = absurd (omega arith)
 pairs_at xs (suc n) t k h =
     let p = and_parts _ _ t in
-    ⊎_elim
-    (λ (lt : k < n). pairs_at xs n p.1 k lt)
-    (λ (ge : n ≤ k). let e : n ≡ k = omega arith in subst (λ (m : ℕ). paired xs m ≡ true) e p.0)
-    (cases_lt k n)
+    ⊎_elim (λ (lt : k < n). pairs_at xs n p.1 k lt) (λ (ge : n ≤ k). let e : n ≡ k = omega arith in subst (λ (m : ℕ). paired xs m ≡ true) e p.0) (cases_lt k n)
 
 both_stand : (xs : List ℕ) (n : ℕ) → paired xs n ≡ true → in_tariff n ≡ true → Has xs n × Has xs (720720 / n)
 both_stand xs n t d =
@@ -115,20 +112,14 @@ module _ (xs : List ℕ) (w : Whole xs) where
       omega arith)
       i j 0 h k
 
-  told : (n : ℕ) (r : Result ℕ ℕ) → MatchResult r
-      (λ i. (i < length xs) × (get_or xs i 0 ≡ n))
-      (λ i. (i ≤ length xs) × ((k : ℕ) → k < i → get_or xs k 0 < n) × ((k : ℕ) → i ≤ k → k < length xs → n < get_or xs k 0)) →
-      is_ok r ≡ in_tariff n
+  told : (n : ℕ) (r : Result ℕ ℕ) → MatchResult r (λ i. (i < length xs) × (get_or xs i 0 ≡ n)) (λ i. (i ≤ length xs) × ((k : ℕ) → k < i → get_or xs k 0 < n) × ((k : ℕ) → i ≤ k → k < length xs → n < get_or xs k 0)) → is_ok r ≡ in_tariff n
   told n (Ok i) h = sym (subst (λ (m : ℕ). in_tariff m ≡ true) h.1 (w.divides i h.0))
   told n (Err i) h =
       ⊎_elim
       (λ t.
       let at = w.complete n (720720 / n) (factored n t) in
       let here : get_or xs at.0 0 ≡ n = at.2 0 in
-      ⊎_elim
-      (λ (lt : at.0 < i). absurd (omega (arith, h.1 at.0 lt)))
-      (λ (ge : i ≤ at.0). absurd (omega (arith, h.2 at.0 ge at.1)))
-      (cases_lt at.0 i))
+      ⊎_elim (λ (lt : at.0 < i). absurd (omega (arith, h.1 at.0 lt))) (λ (ge : i ≤ at.0). absurd (omega (arith, h.2 at.0 ge at.1))) (cases_lt at.0 i))
       (λ f. sym f)
       (cases_Bool (in_tariff n))
 

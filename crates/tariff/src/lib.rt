@@ -1,4 +1,6 @@
 // The tariff: which rates may be booked, and at what price.
+#![tactic(auto)]
+
 ghost use Rattle.std.specs.Prelude.{◌≡◌, is_ok};
 ghost use Rattle.tariff.specs.Booking.{asked, told};
 ghost use Rattle.tariff.specs.Tariff.{in_tariff};

@@ -1,4 +1,6 @@
 // Whole runs of a cell, answer by answer and account by account.
+#![tactic(auto)]
+
 #[cfg(test)]
 mod runs;
 #[cfg(test)]

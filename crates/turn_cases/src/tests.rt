@@ -1,4 +1,3 @@
-// Runs of the tables, and two short ones.
 use super::runs::{play, run, stand};
 use super::tables::*;
 use cell::Cell;
@@ -6,35 +5,102 @@ use largest_debt::LargestDebt;
 use least_served::LeastServed;
 use std::test::Fail;
 
-// The turns of the mixed run: the two that the keep decides, and the last three.
-fn mixed_turns(kinds: &[char; 2], last: &[Given; 3]) -> [Given; 57] {
-    let mut turns = MIXED_TURNS;
-    turns[30] = (1, 1, 10, 255, kinds[0]);
-    turns[40] = (1, 1, 27, 640, kinds[1]);
-    for i in 0..3usize {
-        turns[54 + i] = last[i];
-    }
-    turns
-}
-
 #[test]
 fn largest_debt_with_every_keep(rt: HostRuntime) -> Result<(), Fail> {
-    for keep in 0..5u8 {
-        let turns = mixed_turns(&KINDS[usize::from(keep)], &LARGEST_LAST);
-        let ends = &LARGEST_ENDS[usize::from(keep)];
-        run(&rt, keep, LargestDebt, &MIXED, &turns, ends, 137744)?;
-    }
-    Ok(())
+    run(
+        &rt,
+        0,
+        LargestDebt,
+        &MIXED,
+        &LARGEST_0,
+        &LARGEST_0_END,
+        137744,
+    )?;
+    run(
+        &rt,
+        1,
+        LargestDebt,
+        &MIXED,
+        &LARGEST_1,
+        &LARGEST_1_END,
+        137744,
+    )?;
+    run(
+        &rt,
+        2,
+        LargestDebt,
+        &MIXED,
+        &LARGEST_2,
+        &LARGEST_2_END,
+        137744,
+    )?;
+    run(
+        &rt,
+        3,
+        LargestDebt,
+        &MIXED,
+        &LARGEST_3,
+        &LARGEST_3_END,
+        137744,
+    )?;
+    run(
+        &rt,
+        4,
+        LargestDebt,
+        &MIXED,
+        &LARGEST_4,
+        &LARGEST_4_END,
+        137744,
+    )
 }
 
 #[test]
 fn least_served_with_every_keep(rt: HostRuntime) -> Result<(), Fail> {
-    for keep in 0..5u8 {
-        let turns = mixed_turns(&KINDS[usize::from(keep)], &LEAST_LAST);
-        let ends = &LEAST_ENDS[usize::from(keep)];
-        run(&rt, keep, LeastServed::new(), &MIXED, &turns, ends, 128816)?;
-    }
-    Ok(())
+    run(
+        &rt,
+        0,
+        LeastServed::new(),
+        &MIXED,
+        &LEAST_0,
+        &LEAST_0_END,
+        128816,
+    )?;
+    run(
+        &rt,
+        1,
+        LeastServed::new(),
+        &MIXED,
+        &LEAST_1,
+        &LEAST_1_END,
+        128816,
+    )?;
+    run(
+        &rt,
+        2,
+        LeastServed::new(),
+        &MIXED,
+        &LEAST_2,
+        &LEAST_2_END,
+        128816,
+    )?;
+    run(
+        &rt,
+        3,
+        LeastServed::new(),
+        &MIXED,
+        &LEAST_3,
+        &LEAST_3_END,
+        128816,
+    )?;
+    run(
+        &rt,
+        4,
+        LeastServed::new(),
+        &MIXED,
+        &LEAST_4,
+        &LEAST_4_END,
+        128816,
+    )
 }
 
 #[test]

@@ -1,4 +1,6 @@
 // Makes a million turns over 64 sessions that always wait on good channels, and says on the error output how long that took.
+#![tactic(auto)]
+
 use cell::Cell;
 use chooser::Chooser;
 use least_served::LeastServed;

@@ -1,7 +1,7 @@
 use Prim.Native.Nat.{◌≤◌}
+use mathlib.Core.Path.{refl}
 use native.Mathlib.Nat.{mul-le-mul}
 use native.Mathlib.Omega.{arith}
-use mathlib.Core.Path.{refl}
 use Rattle.account.proofs.charge.cost.Goals as goal
 
 pub returns : goal.returns

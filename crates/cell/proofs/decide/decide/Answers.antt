@@ -1,18 +1,18 @@
 use Rattle.std.proofs.Common.{sym, ap, ◌∙◌, arith}
-use Rattle.model.specs.Lists.{Line, Credit, Extra}
+use Rattle.model.specs.Lists.{Credit, Extra}
+use Rattle.model.specs.Meaning.{meaning}
 use Rattle.model.specs.Session.{Session}
 use Rattle.model.specs.Turn.{way_of}
 use Rattle.table.specs.Places.{table_of}
 use Rattle.table.proofs.Tables.{at_table}
 use Rattle.cell.specs.Picks.{picked_from}
-use Rattle.cell.proofs.Meant.{meant}
 use Rattle.cell.proofs.decide.decide.Goals as goal
 
 pub returns : goal.returns
 unfolding picked_from
 returns g c =
     let rows = c.args.rows.now in
-    let picked = λ (line : Line). picked_from (meant g.C.Chooser) c.args.chooser.now line (table_of rows) in
+    let M = meaning g.C.Chooser.pick g.C.Chooser.after_served g.C.Chooser.after_joined g.C.Chooser.after_cleared in
+    let picked = picked_from M c.args.chooser.now in
     c.way-of.ensures
-    ∙ sym (ap (λ (s : Session). way_of s (picked Credit) (picked Extra))
-    (at_table rows c.args.chosen c.index-rows-chosen.result (omega arith)))
+    ∙ sym (ap (λ (s : Session). way_of s (picked Credit (table_of rows)) (picked Extra (table_of rows))) (at_table rows c.args.chosen c.index-rows-chosen.result (omega arith)))

@@ -1,16 +1,27 @@
-use Rattle.std.proofs.Common.{arith}
-use Rattle.model.specs.Turn.{hands_on, takes_up}
+use Rattle.std.proofs.Common.{sym, ap, ◌∙◌, arith}
+use Rattle.answer.specs.declared.turn.Turn.{Turn}
+use Rattle.model.specs.Session.{Session, Frame}
+use Rattle.model.specs.Table.{change}
+use Rattle.model.specs.Turn.{front, hands_on, takes_up}
 use Rattle.table.specs.Places.{table_of}
-use Rattle.cell.proofs.Turning.{two_turned, frame_sent}
+use Rattle.cell.specs.Ways.{turn_with}
+use Rattle.cell.proofs.Turning.{two_written}
 use Rattle.cell.proofs.send.handed_turn.Goals as goal
 
 pub returns : goal.returns
 returns c =
-    let there = c.account.ensures in
+    let rows = c.args.rows.now in
+    let chosen = c.args.chosen in
+    let sender = c.args.sender in
+    let other = c.account.ensures in
+    let taken = c.take-up.ensures in
+    let sent = c.sent.ensures in
+    let n = c.take-up.result.0.length in
+    let handed = hands_on c.args.keep n in
     record {
-      answer = frame_sent (table_of c.args.rows.now) c.sent.ensures c.take-up.ensures.frame there;
+      answer = sent ∙ ap (λ (f : Frame). turn_with chosen sender f c.args.kind) (taken.frame ∙ ap (λ (s : Session). front s.queue) other);
       after =
-          two_turned c.args.rows.now c.sent.ensures c.args.chosen c.args.sender c.hand-on.result c.take-up.result.1
-          (hands_on c.args.keep) takes_up (omega arith) (omega arith) c.requires.other
-          c.hand-on.ensures c.account-2.ensures c.take-up.ensures.after there;
+          two_written rows chosen sender c.hand-on.result c.take-up.result.1 handed (takes_up n) (omega arith) (omega arith) c.requires.other
+          (c.hand-on.ensures ∙ ap handed c.account-2.ensures) (taken.after ∙ ap (takes_up n) other)
+          ∙ ap (λ (r : Turn). change (change (table_of rows) chosen (hands_on c.args.keep r.length)) sender (takes_up r.length)) (sym sent);
     }

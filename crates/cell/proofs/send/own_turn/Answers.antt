@@ -1,16 +1,24 @@
-use Rattle.std.proofs.Common.{arith}
-use Rattle.model.specs.Turn.{sends}
+use Rattle.std.proofs.Common.{sym, ap, ◌∙◌, arith}
+use Rattle.answer.specs.declared.turn.Turn.{Turn}
+use Rattle.model.specs.Session.{Session, Frame}
+use Rattle.model.specs.Table.{change}
+use Rattle.model.specs.Turn.{front, sends}
 use Rattle.table.specs.Places.{table_of}
-use Rattle.cell.proofs.Turning.{one_turned, frame_sent}
+use Rattle.cell.specs.Ways.{turn_with}
+use Rattle.cell.proofs.Turning.{one_written}
 use Rattle.cell.proofs.send.own_turn.Goals as goal
 
 pub returns : goal.returns
 returns c =
-    let as_sent = sends c.args.keep c.args.spent in
+    let rows = c.args.rows.now in
+    let chosen = c.args.chosen in
     let here = c.account.ensures in
+    let done = c.send.ensures in
+    let sent = c.sent.ensures in
+    let as_sent = sends c.args.keep c.args.spent c.send.result.0.length in
     record {
-      answer = frame_sent (table_of c.args.rows.now) c.sent.ensures c.send.ensures.frame here;
+      answer = sent ∙ ap (λ (f : Frame). turn_with chosen chosen f c.args.kind) (done.frame ∙ ap (λ (s : Session). front s.queue) here);
       after =
-          one_turned c.args.rows.now c.sent.ensures c.args.chosen c.send.result.1 as_sent (omega arith)
-          c.send.ensures.after here;
+          one_written rows chosen c.send.result.1 as_sent (omega arith) (done.after ∙ ap as_sent here)
+          ∙ ap (λ (r : Turn). change (table_of rows) chosen (sends c.args.keep c.args.spent r.length)) (sym sent);
     }

@@ -4,6 +4,4 @@ use Rattle.table.proofs.Tables.{at_table}
 use Rattle.cell.proofs.turn.price.Goals as goal
 
 pub returns : goal.returns
-returns c =
-    let here = at_table c.args.rows.now c.args.place c.index-rows-place.result (omega arith) in
-    sym (ap (λ (s : Session). s.price) here)
+returns c = sym (ap (λ (s : Session). s.price) (at_table c.args.rows.now c.args.place c.index-rows-place.result (omega arith)))

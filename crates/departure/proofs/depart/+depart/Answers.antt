@@ -1,9 +1,10 @@
 use Rattle.std.proofs.Common.{sym, ap, ◌∙◌, arith}
 use Rattle.model.specs.Departures.{departures}
-use Rattle.model.specs.Table.{booked_total, active_count, owing}
-use Rattle.table.specs.Places.{table_of}
+use Rattle.model.specs.Table.{booked_total, active_count}
 use Rattle.model.proofs.Departures.{once_fewer}
 use Rattle.model.proofs.Tables.{first_found}
+use Rattle.departure.specs.Owing.{owing}
+use Rattle.table.specs.Places.{table_of}
 use Rattle.table.proofs.Tables.{length_table}
 use Rattle.departure.proofs.Releases.{same_booked, no_more_owing, departures_more, departures_none}
 use Rattle.departure.proofs.depart.+depart.Goals as goal

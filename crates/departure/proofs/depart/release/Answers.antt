@@ -1,9 +1,10 @@
 use Rattle.std.proofs.Common.{◌≡◌, ℕ, false, ltb, sym, ap, ◌∙◌, ⊎_elim, arith}
 use Rattle.std.proofs.lemmas.Bool.{and_parts, and_cases, ltb-true, ltb-false}
 use Rattle.model.specs.Departures.{active_rate, share}
-use Rattle.model.specs.Table.{total, owing}
+use Rattle.model.specs.Table.{total}
 use Rattle.table.specs.Places.{table_of}
 use Rattle.table.proofs.Tables.{length_table}
+use Rattle.departure.specs.Owing.{owing}
 use Rattle.model.proofs.Uses.{share_nothing, share_nobody}
 use Rattle.departure.proofs.Releases.{rates_gone, owing_gone, departed_is}
 use Rattle.departure.proofs.depart.release.Goals as goal
@@ -24,17 +25,14 @@ share-requires c =
 pub returns-then-lag-rates : goal.returns-then-lag-rates
 returns-then-lag-rates c =
     c.share.ensures
-    ∙ departed_is (table_of c.args.rows.now) c.args.place _ _ _
-    c.end-lag.ensures.after c.end-lag.ensures.lag c.active-rates-rates.ensures
+    ∙ departed_is (table_of c.args.rows.now) c.args.place _ _ _ c.end-lag.ensures.after c.end-lag.ensures.lag c.active-rates-rates.ensures
 
 pub returns-else-lag-rates : goal.returns-else-lag-rates
 returns-else-lag-rates c =
     let lag = c.end-lag.result in
     let rates = c.active-rates-rates.result in
     let left = table_of c.end-lag.new.rows in
-    let none : (n : ℕ) → ltb 0 n ≡ false → n ≡ 0 = λ n e. omega (arith, ltb-false 0 n e) in
-    let no_lag = λ (e : ltb 0 lag ≡ false). ap (λ (n : ℕ). share n rates 0 left) (none lag e) ∙ share_nothing rates 0 left in
-    let nobody = λ (e : ltb 0 rates ≡ false). ap (λ (n : ℕ). share lag n 0 left) (none rates e) ∙ share_nobody lag 0 left in
+    let no_lag = λ (e : ltb 0 lag ≡ false). let none : lag ≡ 0 = omega (arith, ltb-false 0 lag e) in ap (λ (n : ℕ). share n rates 0 left) none ∙ share_nothing rates 0 left in
+    let nobody = λ (e : ltb 0 rates ≡ false). let none : rates ≡ 0 = omega (arith, ltb-false 0 rates e) in ap (λ (n : ℕ). share lag n 0 left) none ∙ share_nobody lag 0 left in
     sym (⊎_elim no_lag nobody (and_cases _ _ c.if-lag-rates.false))
-    ∙ departed_is (table_of c.args.rows.now) c.args.place _ _ _
-    c.end-lag.ensures.after c.end-lag.ensures.lag c.active-rates-rates.ensures
+    ∙ departed_is (table_of c.args.rows.now) c.args.place _ _ _ c.end-lag.ensures.after c.end-lag.ensures.lag c.active-rates-rates.ensures

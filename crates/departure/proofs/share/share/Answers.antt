@@ -1,9 +1,12 @@
-use Rattle.std.proofs.Common.{ap, ◌∙◌, arith}
-use Rattle.std.proofs.lemmas.List.{length-set}
-use Rattle.model.specs.Departures.{active_rate}
-use Rattle.model.specs.Table.{total, owing}
+use Rattle.std.proofs.Common.{◌≡◌, ◌+◌, ◌<◌, length, take, drop, set, sym, refl, ap, ◌∙◌, arith}
+use Rattle.std.proofs.lemmas.List.{length-set, drop-set-lt}
+use Rattle.model.specs.Departures.{active_rate, share}
+use Rattle.model.specs.Session.{Session, vacant}
+use Rattle.model.specs.Table.{Table, total}
+use Rattle.session.specs.Seen.{seen}
 use Rattle.table.specs.Places.{table_of}
 use Rattle.table.proofs.Tables.{length_table, left_more}
+use Rattle.departure.specs.Owing.{owing}
 use Rattle.departure.proofs.Shares.{share_more, share_all, rest_set}
 use Rattle.departure.proofs.share.share.Goals as goal
 
@@ -28,8 +31,7 @@ loop-i-preserved c =
       length-set rows i y ∙ c.loop-i.invariant.0,
       omega (arith, rates, ap (total active_rate) same, c.give-upto.ensures.upto, c.loop-i.invariant.1),
       omega (arith, lags, ap owing same, c.loop-i.invariant.2),
-      share_more c.args.lag c.args.rates c.loop-i.upto c.give-upto.result rows _ i d y (omega arith)
-          c.give-upto.ensures.upto c.give-upto.ensures.after c.loop-i.invariant.3,
+      share_more c.args.lag c.args.rates c.loop-i.upto c.give-upto.result rows _ i d y (omega arith) c.give-upto.ensures.upto c.give-upto.ensures.after c.loop-i.invariant.3,
     )
 
 pub returns : goal.returns

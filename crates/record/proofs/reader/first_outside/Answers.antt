@@ -1,8 +1,8 @@
 use Rattle.std.proofs.Common.{ap, inl, inr, add-zero, arith}
 use Rattle.record.specs.Reading.{first_outside}
 use Rattle.record.proofs.Scan.{inside, found, none}
-use Rattle.record.proofs.reader.first_outside.Goals.{then-b-low-via-then-b-low, then-b-low-via-else-b-low+then-b-high}
 use Rattle.record.proofs.reader.first_outside.Goals as goal
+use Rattle.record.proofs.reader.first_outside.Goals.{then-b-low-via-then-b-low, then-b-low-via-else-b-low+then-b-high}
 
 pub loop-i-init : goal.loop-i-init
 loop-i-init c = ap (λ k. first_outside c.args.low c.args.high k c.args.bytes.now) (add-zero c.args.base)

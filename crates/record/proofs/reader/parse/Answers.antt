@@ -7,8 +7,8 @@ use Rattle.record.specs.Layout.{Contents, contents, unused, place_in, length_in,
 use Rattle.record.specs.Reading.{first_not_zero, first_unprintable, parsed}
 use Rattle.record.proofs.Numbers.{length_is, value_is}
 use Rattle.record.proofs.Parsing.{accepted, says, used}
-use Rattle.record.proofs.reader.parse.Goals.{in-O, in-C, in-A, in-G, in-B, in-T}
 use Rattle.record.proofs.reader.parse.Goals as goal
+use Rattle.record.proofs.reader.parse.Goals.{in-O, in-C, in-A, in-G, in-B, in-T}
 
 pub returns : goal.returns
 returns c =
@@ -22,11 +22,9 @@ returns c =
     let rest : List ℕ = take (length bs - 8) (drop 8 bs) in
     let t : rest ≡ note_in bs = ap (λ (k : ℕ). take (k - 8) (drop 8 bs)) c.requires in
     let held : Letter → Contents = λ k. used k (place_in bs) c.from-le-bytes-length.result c.from-le-bytes-value.result rest in
-    let go : (k : Letter) → l ≡ k → (e : Event) → c.match-letter.result ≡ e → contents e ≡ held k →
-    Ok (contents c.match-letter.result) ≡ parsed c.args.number bs =
+    let go : (k : Letter) → l ≡ k → (e : Event) → c.match-letter.result ≡ e → contents e ≡ held k → Ok (contents c.match-letter.result) ≡ parsed c.args.number bs =
     λ k is e r d.
-    accepted c.args.number bs l some zeros clean _
-    (ap contents r ∙ d ∙ (λ i. used (sym is i) (place_in bs) (n i) (v i) (t i)) ∙ says bs c.requires l (sym zeros)) in
+    accepted c.args.number bs l some zeros clean _ (ap contents r ∙ d ∙ (λ i. used (sym is i) (place_in bs) (n i) (v i) (t i)) ∙ says bs c.requires l (sym zeros)) in
     elim c.match-letter.branch [
       | in-O w ↦ go O w.in-O.is _ w.result-is refl
       | in-C w ↦ go C w.in-C.is _ w.result-is refl

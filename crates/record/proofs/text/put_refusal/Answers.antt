@@ -9,8 +9,6 @@ pub returns : goal.returns
 returns c =
     let a : length (decimal c.number.result) ≤ 3 = decimal8 c.number.result (omega arith) in
     record {
-      put =
-          retext (ap (λ (n : ℕ). codes "E" ++ decimal n) c.number.ensures)
-          (chain c.put-bytes-letter.ensures c.put-decimal.ensures (omega arith));
+      put = retext (ap (λ (n : ℕ). codes "E" ++ decimal n) c.number.ensures) (chain c.put-bytes-letter.ensures c.put-decimal.ensures (omega arith));
       bound = omega arith;
     }

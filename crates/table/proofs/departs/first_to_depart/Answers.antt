@@ -1,9 +1,8 @@
-use Rattle.std.proofs.Common.{sym, ap, ◌∙◌, arith, below_more}
+use Rattle.std.proofs.Common.{◌≡◌, sym, ap, ◌∙◌, arith, below_more}
 use Rattle.model.specs.Departures.{departing}
-use Rattle.model.proofs.Tables.{first_never}
 use Rattle.table.specs.Places.{table_of}
 use Rattle.table.proofs.Tables.{length_table, at_table}
-use Rattle.table.proofs.Walks.{first_is}
+use Rattle.table.proofs.Walks.{first_is, first_is_none}
 use Rattle.table.proofs.departs.first_to_depart.Goals as goal
 
 pub returns-then-departs : goal.returns-then-departs
@@ -21,4 +20,4 @@ loop-place-preserved c =
 pub returns : goal.returns
 returns c =
     let rows = c.args.rows.now in
-    sym (first_never departing (table_of rows) (λ j m. c.loop-place.invariant j (omega (arith, m, length_table rows))))
+    sym (first_is_none departing (table_of rows) (λ j m. c.loop-place.invariant j (omega (arith, m, length_table rows))))

@@ -1,8 +1,8 @@
 use Rattle.std.proofs.Common.{◌≡◌, false, length, get_or, sym, ap, ◌∙◌, arith}
 use Rattle.std.proofs.lemmas.List.{length-set}
 use Rattle.chooser.specs.Offers.{idle}
-use Rattle.model.specs.Lists.{stay, stayed}
-use Rattle.session.specs.Seen.{seen}
+use Rattle.model.specs.Lists.{stayed}
+use Rattle.session.specs.Seen.{seen, stay}
 use Rattle.table.specs.Places.{table_of}
 use Rattle.table.proofs.Built.{built_more, built_all}
 use Rattle.table.proofs.Offering.{length_stayed, getD_stayed}

@@ -1,6 +1,6 @@
-use Rattle.std.proofs.Common.{ℕ, ◌<◌, map, IfSome, None, sym, ap, ◌∙◌, subst, arith}
-use Rattle.std.specs.Option.{option_map}
+use Rattle.std.proofs.Common.{◌≡◌, ℕ, ◌<◌, map, IfSome, None, sym, ap, ◌∙◌, subst, arith}
 use Rattle.std.proofs.lemmas.List.{length-set}
+use Rattle.std.specs.Option.{option_map}
 use Rattle.keys.specs.Kinds.{time_before}
 use Rattle.keys.specs.Least.{Least}
 use Rattle.model.specs.Table.{at, is_none}
@@ -26,9 +26,7 @@ returns c =
     let rows = c.args.rows.now in
     let r = c.least.result in
     let wanted = map time_key (table_of rows) in
-    let keys =
-    built_all c.loop-place.keys wanted c.loop-place.place (omega arith) (omega (arith, length_made time_key rows))
-    c.loop-place.invariant.1 in
+    let keys = built_all c.loop-place.keys wanted c.loop-place.place (omega arith) (omega (arith, length_made time_key rows)) c.loop-place.invariant.1 in
     let is = search_is (table_of rows) r (subst (λ ks. Least time_before ks r) keys c.least.ensures.least) in
     let size = length_table rows ∙ c.told-rows in
     let inside = subst (λ n. IfSome r (λ i. i < n)) size (chosen_inside (table_of rows) r is) in

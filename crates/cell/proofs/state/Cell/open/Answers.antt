@@ -1,28 +1,40 @@
-use Rattle.std.proofs.Common.{ap, ◌∙◌}
+use Rattle.std.proofs.Common.{◌≡◌, Err, refl, ap, ◌∙◌}
+use Rattle.std.proofs.lemmas.Result.{err_from_is_err_and}
+use Rattle.model.proofs.Meant.{lawful}
 use Rattle.model.proofs.Order.{books}
+use Rattle.model.specs.Meaning.{Meaning, Lawful, meaning}
 use Rattle.session.specs.Seen.{seen}
 use Rattle.cell.specs.View.{view}
-use Rattle.cell.proofs.Meant.{meant, law}
-use Rattle.cell.proofs.Steps.{opening_leaves, to_put, put_done, not_put}
+use Rattle.cell.proofs.Steps.{opening_leaves, done_is, cell_is, in_order, refused}
+use Rattle.cell.proofs.state.Cell.open.Given as given
 use Rattle.cell.proofs.state.Cell.open.Goals as goal
+
+abbrev meant : (g : given.Over) → Meaning g.row.C.Denot
+meant g = meaning g.C.Chooser.pick g.C.Chooser.after_served g.C.Chooser.after_joined g.C.Chooser.after_cleared
+
+law : (g : given.Over) → Lawful (meant g)
+law g = lawful _ g.C.Chooser.after_served g.C.Chooser.after_joined g.C.Chooser.after_cleared g.met.C.Chooser.picks
 
 pub put-requires : goal.put-requires
 put-requires g c =
     let x = c.args.self.now in
-    let l = opening_leaves (meant g.C.Chooser) (view x) c.args.place c.args.rate
-    (seen c.in-ok-row.row) c.in-ok-row.ensures in
+    let l = opening_leaves (meant g) (view x) c.args.place c.args.rate (seen c.in-ok-row.row) c.in-ok-row.ensures in
     let cleared = c.cleared.ensures ∙ ap (g.C.Chooser.after_cleared x.chooser) c.from.ensures in
-    to_put l cleared (law g.C.Chooser g.met.C.Chooser.picks) (books x.ordered)
+    record { inside = l.0; ordered = in_order (meant g) (view x) _ _ _ _ _ l cleared (law g) (books x.ordered) }
 
 pub returns : goal.returns
 returns g c =
     let x = c.args.self.now in
-    let l = opening_leaves (meant g.C.Chooser) (view x) c.args.place c.args.rate
-    (seen c.in-ok-row.row) c.in-ok-row.ensures in
+    let l = opening_leaves (meant g) (view x) c.args.place c.args.rate (seen c.in-ok-row.row) c.in-ok-row.ensures in
     let cleared = c.cleared.ensures ∙ ap (g.C.Chooser.after_cleared x.chooser) c.from.ensures in
-    put_done l cleared c.put.ensures
+    record {
+      answer = done_is (meant g) (view x) _ _ _ _ _ l cleared;
+      after = c.put.ensures ∙ cell_is (meant g) (view x) _ _ _ _ _ l cleared;
+    }
 
 pub returns-in-err-row : goal.returns-in-err-row
 returns-in-err-row g c =
-    not_put (meant g.C.Chooser) (view c.args.self.now) _ _ _ c.in-err-row.ensures
-    c.from-residual.result c.from-residual.ensures.1
+    let p = err_from_is_err_and c.from-residual.result c.from-residual.ensures.1 in
+    let r = refused (meant g) (view c.args.self.now) _ _ c.in-err-row.field-0.0 c.in-err-row.ensures
+    c.from-residual.result (p.1 ∙ ap Err p.2) in
+    record { answer = r.0; after = r.1 }

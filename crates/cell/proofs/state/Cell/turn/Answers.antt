@@ -1,33 +1,50 @@
+use Rattle.std.proofs.Common.{◌≡◌, Err, sym, ap, ◌∙◌}
+use Rattle.std.proofs.lemmas.Result.{err_from_is_err_and}
+use Rattle.model.proofs.Meant.{lawful}
 use Rattle.model.proofs.Order.{books}
+use Rattle.model.specs.Calls.{Outcome, turn, refusal}
+use Rattle.model.specs.Meaning.{Meaning, Lawful, meaning}
+use Rattle.table.specs.Places.{table_of}
+use Rattle.cell.specs.Turns.{Accepted, turned_as}
 use Rattle.cell.specs.View.{view}
-use Rattle.cell.proofs.Meant.{meant, law}
-use Rattle.cell.proofs.Passing.{turn_accepted, turn_done, in_order, turn_refused}
+use Rattle.cell.proofs.Passing.{turn_accepted, answer_is, cell_is, in_order}
+use Rattle.cell.proofs.Steps.{not_planned, refuses}
+use Rattle.cell.proofs.state.Cell.turn.Given as given
 use Rattle.cell.proofs.state.Cell.turn.Goals as goal
 
+abbrev meant : (g : given.Over) → Meaning g.row.C.Denot
+meant g = meaning g.C.Chooser.pick g.C.Chooser.after_served g.C.Chooser.after_joined g.C.Chooser.after_cleared
+
+law : (g : given.Over) → Lawful (meant g)
+law g = lawful g.C.Chooser.pick g.C.Chooser.after_served g.C.Chooser.after_joined g.C.Chooser.after_cleared g.met.C.Chooser.picks
+
 pub pass-turn-requires : goal.pass-turn-requires
-pass-turn-requires g c =
-    let x = c.args.self.now in
-    turn_accepted (view x) c.in-ok-chosen.chosen c.in-ok-chosen.ensures (books x.ordered)
+pass-turn-requires g c = let x = c.args.self.now in turn_accepted (view x) c.in-ok-chosen.chosen c.in-ok-chosen.ensures (books x.ordered)
 
 pub invariant-of-self : goal.invariant-of-self
 invariant-of-self g c =
     let x = c.args.self.now in
     let p = c.pass-turn.ensures in
     let a = turn_accepted (view x) c.in-ok-chosen.chosen c.in-ok-chosen.ensures (books x.ordered) in
-    let M = meant g.C.Chooser in
-    let lawful = law g.C.Chooser g.met.C.Chooser.picks in
-    (in_order M lawful x.chooser a c.pass-turn.result p.answer p.after p.marked p.told, tt)
+    (in_order (meant g) (law g) _ _ (table_of x.rows) x.chooser _ a c.pass-turn.result _ _ _ p.answer p.after p.marked p.told, tt)
 
 pub returns : goal.returns
 returns g c =
     let x = c.args.self.now in
     let p = c.pass-turn.ensures in
     let a = turn_accepted (view x) c.in-ok-chosen.chosen c.in-ok-chosen.ensures (books x.ordered) in
-    let M = meant g.C.Chooser in
-    let lawful = law g.C.Chooser g.met.C.Chooser.picks in
-    turn_done M lawful x.chooser a c.pass-turn.result p.answer p.after p.marked p.told
+    record {
+      answer = answer_is (meant g) (law g) _ _ (table_of x.rows) x.chooser _ a c.pass-turn.result p.answer;
+      after = cell_is (meant g) (law g) _ _ (table_of x.rows) x.chooser _ a c.pass-turn.result _ _ _ p.answer p.after p.marked p.told;
+    }
 
 pub returns-in-err-chosen : goal.returns-in-err-chosen
 returns-in-err-chosen g c =
-    turn_refused (meant g.C.Chooser) (view c.args.self.now) _ c.in-err-chosen.ensures c.from-residual.result
-    c.from-residual.ensures.1
+    let x = view c.args.self.now in
+    let p = err_from_is_err_and c.from-residual.result c.from-residual.ensures.1 in
+    let why = c.in-err-chosen.field-0.0 in
+    let r = refuses (meant g) x turn why (not_planned (refusal x turn) _ why c.in-err-chosen.ensures) in
+    record {
+      answer = ap turned_as (p.1 ∙ ap Err p.2) ∙ sym (ap (λ (o : Outcome (meant g)). o.answer) r);
+      after = sym (ap (λ (o : Outcome (meant g)). o.cell) r);
+    }

@@ -1,0 +1,14 @@
+-- Whom a chooser is asked about: those who stood in the list before, while nothing has changed, are all who stand in it.
+use Rattle.std.proofs.Common.{◌≡◌, Bool, true, false, ◌&&◌, List, [], ◌∷◌, refl, ap, ◌∙◌}
+use Rattle.model.specs.Lists.{Entry, Line, in_line, in_list, entry, offer, stayed}
+use Rattle.model.specs.Table.{Table}
+
+twice : (b : Bool) → (b && b) ≡ b
+twice true = refl
+twice false = refl
+
+pub stayed_members : (l : Line) (t : Table) → stayed l (in_list l t) t ≡ offer l t
+unfolding stayed
+stayed_members l [] = refl
+stayed_members l (s ∷ t) =
+    ap (λ (b : Bool). entry b s ∷ stayed l (in_list l t) t) (twice (in_line l s)) ∙ ap (λ (es : List Entry). entry (in_line l s) s ∷ es) (stayed_members l t)
