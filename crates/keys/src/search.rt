@@ -7,7 +7,7 @@ use super::key::Key;
 
 // The best so far, unless the entry at i comes before it.
 fn better<K: Key + Copy>(best: Option<(usize, K)>, i: usize, entry: Option<K>) -> Option<(usize, K)>
-    ensures { result ≡ better_of before best i entry }
+    ensures { result ≡ better_of K.before best i entry }
 {
     match entry {
         None => best,
@@ -26,8 +26,8 @@ fn better<K: Key + Copy>(best: Option<(usize, K)>, i: usize, entry: Option<K>) -
 
 // The index of the least key, the lower one on a tie. An entry without a key is no candidate.
 pub fn least<K: Key + Copy>(keys: &[Option<K>]) -> Option<usize>
-    ensures found { result ≡ least_of before keys.now }
-    ensures least { Least before keys.now result }
+    ensures found { result ≡ least_of K.before keys.now }
+    ensures least { Least K.before keys.now result }
 {
     let mut best: Option<(usize, K)> = None;
     for (i, entry) in keys.iter().enumerate() {

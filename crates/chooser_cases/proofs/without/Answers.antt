@@ -9,5 +9,5 @@ returns-then-place-ge64 c =
     let o = c.args.offer.now in
     sym (set_past o.entries c.args.place idle (omega (arith, sized o.entries o.ok)))
 
-pub invariant-of-result : goal.invariant-of-result
-invariant-of-result c = let o = c.args.offer.now in (sound_set o.entries o.ok _ idle refl, tt)
+pub invariant_of-result : goal.invariant_of-result
+invariant_of-result c = let o = c.args.offer.now in record { ok = sound_set o.entries o.ok _ idle refl }

@@ -5,18 +5,18 @@ use Rattle.chooser.proofs.Sound.{entry_some, entry_none, lag_at, price_at, nobod
 use Rattle.largest_debt.specs.Largest.{debt_key}
 use Rattle.largest_debt.proofs.debt_at.Goals as goal
 
-pub returns-in-err-entry : goal.returns-in-err-entry
-returns-in-err-entry c =
+pub returns-in_err-entry : goal.returns-in_err-entry
+returns-in_err-entry c =
     let o = c.args.offer.now in
     let place = c.args.place in
-    let past = nobody_past o.entries o.ok place (entry_none o.entries place c.in-err-entry.ensures) in
-    c.from-residual.ensures ∙ sym (cond-false (offered_at o.entries place) (Some (debt_key o.entries place)) None past)
+    let past = nobody_past o.entries o.ok place (entry_none o.entries place c.in_err-entry.ensures) in
+    c.from_residual.ensures ∙ sym (cond-false (offered_at o.entries place) (Some (debt_key o.entries place)) None past)
 
-pub debt-of-requires : goal.debt-of-requires
-debt-of-requires c =
+pub debt_of-requires : goal.debt_of-requires
+debt_of-requires c =
     let o = c.args.offer.now in
     let place = c.args.place in
-    let is = sym (entry_some o.entries place c.in-ok-entry.entry c.in-ok-entry.ensures) in
+    let is = sym (entry_some o.entries place c.in_ok-entry.entry c.in_ok-entry.ensures) in
     record {
       near = subst (λ e. nat_abs e.lag ≤ lag_bound) is (lag_at o.entries o.ok place);
       price = subst (λ e. e.price ≤ 720720) is (price_at o.entries o.ok place);

@@ -3,8 +3,8 @@ use Rattle.keys.specs.Kinds.{debt}
 use Rattle.largest_debt.proofs.Debts.{debt_fits, debt_is}
 use Rattle.largest_debt.proofs.debt_of.Goals as goal
 
-pub overflow-mul-result : goal.overflow-mul-result
-overflow-mul-result c =
+pub overflow_mul-result : goal.overflow_mul-result
+overflow_mul-result c =
     let f : SFits w64 c.args.entry.lag = search rules in
     debt_fits _ _ f c.requires.near c.requires.price
 

@@ -2,4 +2,4 @@ use Rattle.tariff.proofs.Wholes.{found_is}
 use Rattle.tariff.proofs.search.Goals as goal
 
 pub returns : goal.returns
-returns c = found_is _ c.rates.ensures c.args.units _ c.binary-search.ensures.position
+returns c = found_is _ c.rates.ensures c.args.units _ c.binary_search.ensures.position

@@ -14,5 +14,5 @@ returns g c =
     let rows = c.args.rows.now in
     let M = meaning g.C.Chooser.pick g.C.Chooser.after_served g.C.Chooser.after_joined g.C.Chooser.after_cleared in
     let picked = picked_from M c.args.chooser.now in
-    c.way-of.ensures
+    c.way_of.ensures
     ∙ sym (ap (λ (s : Session). way_of s (picked Credit (table_of rows)) (picked Extra (table_of rows))) (at_table rows c.args.chosen c.index-rows-chosen.result (omega arith)))

@@ -30,8 +30,8 @@ decide-way-requires g c =
       found = c.look-before.ensures;
     }
 
-pub carry-out-turn-requires : goal.carry-out-turn-requires
-carry-out-turn-requires g c =
+pub carry_out-turn-requires : goal.carry_out-turn-requires
+carry_out-turn-requires g c =
     let t = table_of c.args.rows.now in
     let ch = c.args.chooser.now in
     let way = way_as c.decide-way.result in
@@ -43,19 +43,19 @@ carry-out-turn-requires g c =
       room = has_room (meant g) (law g) _ _ t ch _ c.requires;
     }
 
-pub tell-served-requires : goal.tell-served-requires
-tell-served-requires g c =
+pub tell_served-requires : goal.tell_served-requires
+tell_served-requires g c =
     handed_inside (meant g) (law g) _ _ (table_of c.args.rows.now) c.args.chooser.now _ c.requires (way_as c.decide-way.result) c.decide-way.ensures
 
 pub leave-requires : goal.leave-requires
 leave-requires g c =
     midway (meant g) (law g) _ _ (table_of c.args.rows.now) c.args.chooser.now _ c.requires (way_as c.decide-way.result) c.decide-way.ensures
-    c.carry-out-turn.result c.carry-out-turn.ensures.answer _ c.carry-out-turn.ensures.after
+    c.carry_out-turn.result c.carry_out-turn.ensures.answer _ c.carry_out-turn.ensures.after
 
 pub settle-requires : goal.settle-requires
 settle-requires g c =
     can_offer_after (meant g) (law g) _ _ (table_of c.args.rows.now) c.args.chooser.now _ c.requires (way_as c.decide-way.result) c.decide-way.ensures
-    c.carry-out-turn.result c.carry-out-turn.ensures.answer _ _ c.carry-out-turn.ensures.after c.leave.ensures
+    c.carry_out-turn.result c.carry_out-turn.ensures.answer _ _ c.carry_out-turn.ensures.after c.leave.ensures
 
 pub returns : goal.returns
 unfolding mark_after all_joins
@@ -65,19 +65,19 @@ returns g c =
     let ch = c.args.chooser.now in
     let keep = c.args.keep in
     let chosen = c.args.chosen in
-    let n = c.carry-out-turn.result.length in
+    let n = c.carry_out-turn.result.length in
     let u = table_of c.leave.new.rows in
     let is = c.decide-way.ensures in
     let looked = c.look-before.ensures in
     let way = way_as c.decide-way.result in
-    let heard_then : c.tell-served.new.chooser ≡ heard M (only ch t) way n =
-    c.tell-served.ensures ∙ ap (λ (v : Table). heard M (only ch v) way n) c.carry-out-turn.ensures.after ∙ heard_after M ch keep n t chosen way in
+    let heard_then : c.tell_served.new.chooser ≡ heard M (only ch t) way n =
+    c.tell_served.ensures ∙ ap (λ (v : Table). heard M (only ch v) way n) c.carry_out-turn.ensures.after ∙ heard_after M ch keep n t chosen way in
     record {
-      answer = c.carry-out-turn.ensures.answer ∙ ap (answer_of t chosen) is;
-      after = c.leave.ensures ∙ ap departures (c.carry-out-turn.ensures.after ∙ ap (turned keep t chosen n) is);
+      answer = c.carry_out-turn.ensures.answer ∙ ap (answer_of t chosen) is;
+      after = c.leave.ensures ∙ ap departures (c.carry_out-turn.ensures.after ∙ ap (turned keep t chosen n) is);
       marked = c.settle.ensures.mark ∙ ap (λ (b : Before). mark_from (least u) b.idle (greatest u) c.args.mark.now) looked;
       told =
           c.settle.ensures.told
-          ∙ ap (λ (b : Before). joins M Extra b.extra u (joins M Credit b.credit u c.tell-served.new.chooser)) looked
+          ∙ ap (λ (b : Before). joins M Extra b.extra u (joins M Credit b.credit u c.tell_served.new.chooser)) looked
           ∙ ap (all_joins M t u) (heard_then ∙ ap (λ (w : Way). heard M (only ch t) w n) is);
     }

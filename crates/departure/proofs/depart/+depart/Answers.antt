@@ -30,5 +30,5 @@ returns-in-Some t c =
     let table = table_of c.args.rows.now in
     c.depart.ensures ∙ ap departures c.release.ensures ∙ sym (departures_more table c.in-Some.place (sym c.in-Some.ensures))
 
-pub returns-in-default : goal.returns-in-default
-returns-in-default t c = sym (departures_none (table_of c.args.rows.now) (sym c.in-default.ensures))
+pub returns-in_default : goal.returns-in_default
+returns-in_default t c = sym (departures_none (table_of c.args.rows.now) (sym c.in_default.ensures))

@@ -5,14 +5,14 @@ use Rattle.table.specs.Places.{table_of}
 use Rattle.table.proofs.Tables.{left_more, left_all}
 use Rattle.table.proofs.departs.active_rates.Goals as goal
 
-pub overflow-add-sum : goal.overflow-add-sum
-overflow-add-sum c = omega (arith, c.loop-row.invariant.1, c.active-rate-sum.ensures.most)
+pub overflow_add-sum : goal.overflow_add-sum
+overflow_add-sum c = omega (arith, c.loop-row.invariant.1, c.active_rate-sum.ensures.most)
 
 pub loop-row-preserved : goal.loop-row-preserved
 unfolding total
 loop-row-preserved c =
     let left = left_more (total active_rate) c.args.rows.now c.loop-row.row-index c.row-item.result (omega arith) in
-    (omega (arith, left, c.loop-row.invariant.0, c.active-rate-sum.ensures.is), omega (arith, c.loop-row.invariant.1, c.active-rate-sum.ensures.most))
+    (omega (arith, left, c.loop-row.invariant.0, c.active_rate-sum.ensures.is), omega (arith, c.loop-row.invariant.1, c.active_rate-sum.ensures.most))
 
 pub returns : goal.returns
 unfolding total

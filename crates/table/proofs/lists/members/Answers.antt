@@ -13,7 +13,7 @@ loop-place-preserved c =
       simp length-set c.loop-place.invariant.0,
       built_more c.loop-place.is (in_list c.args.line (table_of rows)) c.loop-place.place _ false (omega arith)
           (omega (arith, length_made in_it rows)) c.loop-place.invariant.1
-          (c.stands-in.ensures ∙ sym (getD_made in_it rows c.loop-place.place _ false (omega arith))),
+          (c.stands_in.ensures ∙ sym (getD_made in_it rows c.loop-place.place _ false (omega arith))),
     )
 
 pub returns : goal.returns

@@ -18,21 +18,21 @@ law g = lawful _ g.C.Chooser.after_served g.C.Chooser.after_joined g.C.Chooser.a
 pub put-requires : goal.put-requires
 put-requires g c =
     let x = c.args.self.now in
-    let l = arrival_leaves (meant g) (view x) c.args.place c.args.frame (seen c.in-ok-row.row) c.in-ok-row.ensures in
+    let l = arrival_leaves (meant g) (view x) c.args.place c.args.frame (seen c.in_ok-row.row) c.in_ok-row.ensures in
     record { inside = l.0; ordered = in_order (meant g) (view x) _ _ _ _ _ l refl (law g) (books x.ordered) }
 
 pub returns : goal.returns
 returns g c =
     let x = c.args.self.now in
-    let l = arrival_leaves (meant g) (view x) c.args.place c.args.frame (seen c.in-ok-row.row) c.in-ok-row.ensures in
+    let l = arrival_leaves (meant g) (view x) c.args.place c.args.frame (seen c.in_ok-row.row) c.in_ok-row.ensures in
     record {
       answer = done_is (meant g) (view x) _ _ _ _ _ l refl;
       after = c.put.ensures ∙ cell_is (meant g) (view x) _ _ _ _ _ l refl;
     }
 
-pub returns-in-err-row : goal.returns-in-err-row
-returns-in-err-row g c =
-    let p = err_from_is_err_and c.from-residual.result c.from-residual.ensures.1 in
-    let r = refused (meant g) (view c.args.self.now) _ _ c.in-err-row.field-0.0 c.in-err-row.ensures
-    c.from-residual.result (p.1 ∙ ap Err p.2) in
+pub returns-in_err-row : goal.returns-in_err-row
+returns-in_err-row g c =
+    let p = err_from_is_err_and c.from_residual.result c.from_residual.ensures.1 in
+    let r = refused (meant g) (view c.args.self.now) _ _ c.in_err-row.field-0.0 c.in_err-row.ensures
+    c.from_residual.result (p.1 ∙ ap Err p.2) in
     record { answer = r.0; after = r.1 }

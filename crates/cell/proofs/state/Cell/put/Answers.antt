@@ -19,13 +19,13 @@ settle-self-requires g c =
     let at_place = put_row x.rows c.from.result c.args.place c.args.row c.from.ensures sized c.requires.inside in
     subst Offerable (sym at_place) (settled_offers (meant g) (view x) _ c.requires.ordered)
 
-pub invariant-of-self : goal.invariant-of-self
-invariant-of-self g c =
+pub invariant_of-self : goal.invariant_of-self
+invariant_of-self g c =
     let x = c.args.self.now in
     let settled = c.settle-self.ensures in
     let is = put_is (meant g) x.keep x.mark x.turns x.rows x.chooser c.from.result c.args.place c.args.row _ _ _
     c.from.ensures (rows_sized x.rows x.ordered) c.requires.inside c.look-before.ensures settled.mark settled.told in
-    (subst (λ (y : Cell g.row.C.Denot). InOrder y.keep y.mark y.turns y.table) (sym is) ∣ c.requires.ordered ∣₁, tt)
+    record { ordered = subst (λ (y : Cell g.row.C.Denot). InOrder y.keep y.mark y.turns y.table) (sym is) ∣ c.requires.ordered ∣₁ }
 
 pub returns : goal.returns
 returns g c =

@@ -19,31 +19,31 @@ law : (g : given.Over) → Lawful (meant g)
 law g = lawful g.C.Chooser.pick g.C.Chooser.after_served g.C.Chooser.after_joined g.C.Chooser.after_cleared g.met.C.Chooser.picks
 
 pub pass-turn-requires : goal.pass-turn-requires
-pass-turn-requires g c = let x = c.args.self.now in turn_accepted (view x) c.in-ok-chosen.chosen c.in-ok-chosen.ensures (books x.ordered)
+pass-turn-requires g c = let x = c.args.self.now in turn_accepted (view x) c.in_ok-chosen.chosen c.in_ok-chosen.ensures (books x.ordered)
 
-pub invariant-of-self : goal.invariant-of-self
-invariant-of-self g c =
+pub invariant_of-self : goal.invariant_of-self
+invariant_of-self g c =
     let x = c.args.self.now in
     let p = c.pass-turn.ensures in
-    let a = turn_accepted (view x) c.in-ok-chosen.chosen c.in-ok-chosen.ensures (books x.ordered) in
-    (in_order (meant g) (law g) _ _ (table_of x.rows) x.chooser _ a c.pass-turn.result _ _ _ p.answer p.after p.marked p.told, tt)
+    let a = turn_accepted (view x) c.in_ok-chosen.chosen c.in_ok-chosen.ensures (books x.ordered) in
+    record { ordered = in_order (meant g) (law g) _ _ (table_of x.rows) x.chooser _ a c.pass-turn.result _ _ _ p.answer p.after p.marked p.told }
 
 pub returns : goal.returns
 returns g c =
     let x = c.args.self.now in
     let p = c.pass-turn.ensures in
-    let a = turn_accepted (view x) c.in-ok-chosen.chosen c.in-ok-chosen.ensures (books x.ordered) in
+    let a = turn_accepted (view x) c.in_ok-chosen.chosen c.in_ok-chosen.ensures (books x.ordered) in
     record {
       answer = answer_is (meant g) (law g) _ _ (table_of x.rows) x.chooser _ a c.pass-turn.result p.answer;
       after = cell_is (meant g) (law g) _ _ (table_of x.rows) x.chooser _ a c.pass-turn.result _ _ _ p.answer p.after p.marked p.told;
     }
 
-pub returns-in-err-chosen : goal.returns-in-err-chosen
-returns-in-err-chosen g c =
+pub returns-in_err-chosen : goal.returns-in_err-chosen
+returns-in_err-chosen g c =
     let x = view c.args.self.now in
-    let p = err_from_is_err_and c.from-residual.result c.from-residual.ensures.1 in
-    let why = c.in-err-chosen.field-0.0 in
-    let r = refuses (meant g) x turn why (not_planned (refusal x turn) _ why c.in-err-chosen.ensures) in
+    let p = err_from_is_err_and c.from_residual.result c.from_residual.ensures.1 in
+    let why = c.in_err-chosen.field-0.0 in
+    let r = refuses (meant g) x turn why (not_planned (refusal x turn) _ why c.in_err-chosen.ensures) in
     record {
       answer = ap turned_as (p.1 ∙ ap Err p.2) ∙ sym (ap (λ (o : Outcome (meant g)). o.answer) r);
       after = sym (ap (λ (o : Outcome (meant g)). o.cell) r);

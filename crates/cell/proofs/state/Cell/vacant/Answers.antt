@@ -7,11 +7,11 @@ use Rattle.model.specs.Table.{Table}
 use Rattle.cell.proofs.Rows.{table_vacant}
 use Rattle.cell.proofs.state.Cell.vacant.Goals as goal
 
-pub invariant-of-result : goal.invariant-of-result
-invariant-of-result g c =
+pub invariant_of-result : goal.invariant_of-result
+invariant_of-result g c =
     let e = table_vacant 64 c.vacant-vacant.result c.vacant-vacant.ensures in
     let b = new_sound c.args.keep c.args.chooser (omega (arith, c.if-keep-gt-QUARTERS.false)) in
-    (subst (λ (t : Table). InOrder c.args.keep 0 0 t) (sym e) ∣ b ∣₁, tt)
+    record { ordered = subst (λ (t : Table). InOrder c.args.keep 0 0 t) (sym e) ∣ b ∣₁ }
 
 pub returns : goal.returns
 returns g c =

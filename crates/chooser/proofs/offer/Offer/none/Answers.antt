@@ -3,5 +3,5 @@ use Rattle.chooser.specs.Offers.{sound}
 use Rattle.chooser.proofs.Sound.{sound_nobody}
 use Rattle.chooser.proofs.offer.Offer.none.Goals as goal
 
-pub invariant-of-result : goal.invariant-of-result
-invariant-of-result c = (subst (λ es. sound es ≡ true) (sym c.idle-entries.ensures) sound_nobody, tt)
+pub invariant_of-result : goal.invariant_of-result
+invariant_of-result c = record { ok = subst (λ es. sound es ≡ true) (sym c.idle_entries.ensures) sound_nobody }

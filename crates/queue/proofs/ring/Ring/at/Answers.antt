@@ -3,8 +3,8 @@ use Rattle.queue.specs.Ring.{held}
 use Rattle.queue.proofs.Rings.{length_held, nth_around}
 use Rattle.queue.proofs.ring.Ring.at.Goals as goal
 
-pub overflow-add-result : goal.overflow-add-result
-overflow-add-result c = let n = length_held c.args.self.now in search rules
+pub overflow_add-result : goal.overflow_add-result
+overflow_add-result c = let n = length_held c.args.self.now in search rules
 
 pub returns : goal.returns
 unfolding held

@@ -3,8 +3,8 @@ use Rattle.queue.specs.Ring.{held}
 use Rattle.queue.proofs.Rings.{length_held, around_push}
 use Rattle.queue.proofs.ring.Ring.put.Goals as goal
 
-pub invariant-of-self : goal.invariant-of-self
-invariant-of-self c = let n = length_held c.args.self.now in search rules
+pub invariant_of-self : goal.invariant_of-self
+invariant_of-self c = let n = length_held c.args.self.now in search rules
 
 pub returns : goal.returns
 unfolding held

@@ -3,8 +3,8 @@ use Rattle.queue.specs.Ring.{held}
 use Rattle.queue.proofs.Rings.{length_held, around_take}
 use Rattle.queue.proofs.ring.Ring.take.Goals as goal
 
-pub overflow-sub-self : goal.overflow-sub-self
-overflow-sub-self c = let n = length_held c.args.self.now in search rules
+pub overflow_sub-self : goal.overflow_sub-self
+overflow_sub-self c = let n = length_held c.args.self.now in search rules
 
 pub returns : goal.returns
 unfolding held
