@@ -26,7 +26,7 @@ pub(crate) fn decide<C: Chooser>(
     requires inside { chosen < 64 }
     requires fair { Offerable (table_of rows.now) }
     requires found { before.now ≡ before_of (table_of rows.now) }
-    ensures { way_as result ≡ decided (meaning pick after_served after_joined after_cleared) (only chooser.now (table_of rows.now)) chosen }
+    ensures { way_as result ≡ decided (meaning C.pick C.after_served C.after_joined C.after_cleared) (only chooser.now (table_of rows.now)) chosen }
 {
     way_of(&rows[chosen], rows, before, chooser)
 }
@@ -35,7 +35,7 @@ pub(crate) fn decide<C: Chooser>(
 fn way_of<C: Chooser>(row: &Row, rows: &[Row; 64], before: &Before, chooser: &C) -> Way
     requires fair { Offerable (table_of rows.now) }
     requires found { before.now ≡ before_of (table_of rows.now) }
-    ensures { way_as result ≡ way_of (seen row.now) (picked_from (meaning pick after_served after_joined after_cleared) chooser.now Credit (table_of rows.now)) (picked_from (meaning pick after_served after_joined after_cleared) chooser.now Extra (table_of rows.now)) }
+    ensures { way_as result ≡ way_of (seen row.now) (picked_from (meaning C.pick C.after_served C.after_joined C.after_cleared) chooser.now Credit (table_of rows.now)) (picked_from (meaning C.pick C.after_served C.after_joined C.after_cleared) chooser.now Extra (table_of rows.now)) }
 {
     if row.able() & !row.leads() {
         return Way::ByRight;
@@ -59,7 +59,7 @@ fn way_of<C: Chooser>(row: &Row, rows: &[Row; 64], before: &Before, chooser: &C)
 fn ask<C: Chooser>(chooser: &C, line: Line, rows: &[Row; 64], members: &[bool; 64]) -> Option<usize>
     requires fair { Offerable (table_of rows.now) }
     requires members { members.now ≡ in_list line (table_of rows.now) }
-    ensures { result ≡ picked_from (meaning pick after_served after_joined after_cleared) chooser.now line (table_of rows.now) }
+    ensures { result ≡ picked_from (meaning C.pick C.after_served C.after_joined C.after_cleared) chooser.now line (table_of rows.now) }
 {
     let offer = offer(rows, line, members);
     chooser.ask(line, &offer)

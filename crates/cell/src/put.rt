@@ -16,9 +16,9 @@ impl<C: Chooser> Cell<C> {
     pub(crate) fn put(&mut self, place: u8, row: Row)
         requires inside { place < 64 }
         requires ordered { Sound
-            (with_session (meaning pick after_served after_joined after_cleared) (view self.old) place (seen row)) }
+            (with_session (meaning C.pick C.after_served C.after_joined C.after_cleared) (view self.old) place (seen row)) }
         ensures { view self.new ≡
-            with_session (meaning pick after_served after_joined after_cleared) (view self.old) place
+            with_session (meaning C.pick C.after_served C.after_joined C.after_cleared) (view self.old) place
             (seen row) }
     {
         let before = look(&self.rows);

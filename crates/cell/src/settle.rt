@@ -24,7 +24,7 @@ pub(crate) fn offer(rows: &[Row; 64], line: Line, before: &[bool; 64]) -> Offer
 pub(crate) fn tell<C: Chooser>(chooser: &mut C, line: Line, rows: &[Row; 64], before: &[bool; 64])
     requires { Offerable (table_of rows.now) }
     ensures { chooser.new ≡
-        joins (meaning pick after_served after_joined after_cleared) line before.now
+        joins (meaning C.pick C.after_served C.after_joined C.after_cleared) line before.now
         (table_of rows.now) chooser.old }
 {
     let stay = offer(rows, line, before);
@@ -45,7 +45,7 @@ pub(crate) fn settle<C: Chooser>(
     requires { Offerable (table_of rows.now) }
     ensures mark { result ≡ mark_left before.now (table_of rows.now) mark }
     ensures told { chooser.new ≡
-        joins_left (meaning pick after_served after_joined after_cleared) before.now
+        joins_left (meaning C.pick C.after_served C.after_joined C.after_cleared) before.now
         (table_of rows.now) chooser.old }
 {
     tell(chooser, Line::Credit, rows, &before.credit);

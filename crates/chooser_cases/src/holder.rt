@@ -19,7 +19,7 @@ impl<C: Chooser> Holder<C> {
 
     // Who would be picked.
     pub fn peek(&self, line: Line, offer: &Offer) -> Option<usize>
-        ensures value { result ≡ pick self.now.chooser line offer.now }
+        ensures value { result ≡ C.pick self.now.chooser line offer.now }
         ensures offered { PicksOffered offer.now.entries result }
     {
         self.chooser.ask(line, offer)
@@ -27,8 +27,8 @@ impl<C: Chooser> Holder<C> {
 
     // Serves who is picked, at its price, and says who that was.
     pub fn serve(&mut self, line: Line, offer: &Offer, length: u16) -> Option<usize>
-        ensures value { result ≡ pick self.old.chooser line offer.now }
-        ensures after { self.new.chooser ≡ served_pick after_served self.old.chooser line offer.now.entries length result }
+        ensures value { result ≡ C.pick self.old.chooser line offer.now }
+        ensures after { self.new.chooser ≡ served_pick C.after_served self.old.chooser line offer.now.entries length result }
     {
         let picked = self.peek(line, offer);
         if let Some(place) = picked {
@@ -41,7 +41,7 @@ impl<C: Chooser> Holder<C> {
 
     // Every place joins, in ascending order.
     pub fn join_all(&mut self, line: Line, offer: &Offer)
-        ensures { self.new.chooser ≡ told_below (λ c place. after_joined c line place offer.now) self.old.chooser 64 }
+        ensures { self.new.chooser ≡ told_below (λ c place. C.after_joined c line place offer.now) self.old.chooser 64 }
     {
         for place in 0..64 {
             self.chooser.joined(line, place, offer);
@@ -50,7 +50,7 @@ impl<C: Chooser> Holder<C> {
 
     // A place is opened.
     pub fn clear(&mut self, place: usize)
-        ensures { self.new.chooser ≡ after_cleared self.old.chooser place }
+        ensures { self.new.chooser ≡ C.after_cleared self.old.chooser place }
     {
         self.chooser.cleared(place);
     }

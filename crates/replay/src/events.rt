@@ -13,8 +13,8 @@ use record::Event;
 
 // Makes the call that an event stands for. A refusal becomes the fault of the record with this number.
 pub fn apply<C: Chooser>(cell: &mut Cell<C>, event: Event, number: u64) -> Result<Answer, Fault>
-    ensures answer { result ≡ at_record number (step (meaning pick after_served after_joined after_cleared) (view cell.old) (call_of event.entry)).answer }
-    ensures after { view cell.new ≡ (step (meaning pick after_served after_joined after_cleared) (view cell.old) (call_of event.entry)).cell }
+    ensures answer { result ≡ at_record number (step (meaning C.pick C.after_served C.after_joined C.after_cleared) (view cell.old) (call_of event.entry)).answer }
+    ensures after { view cell.new ≡ (step (meaning C.pick C.after_served C.after_joined C.after_cleared) (view cell.old) (call_of event.entry)).cell }
 {
     match call(cell, event) {
         Ok(answer) => Ok(answer),
@@ -28,8 +28,8 @@ pub fn apply<C: Chooser>(cell: &mut Cell<C>, event: Event, number: u64) -> Resul
 }
 
 fn call<C: Chooser>(cell: &mut Cell<C>, event: Event) -> Result<Answer, Refusal>
-    ensures answer { result ≡ (step (meaning pick after_served after_joined after_cleared) (view cell.old) (call_of event.entry)).answer }
-    ensures after { view cell.new ≡ (step (meaning pick after_served after_joined after_cleared) (view cell.old) (call_of event.entry)).cell }
+    ensures answer { result ≡ (step (meaning C.pick C.after_served C.after_joined C.after_cleared) (view cell.old) (call_of event.entry)).answer }
+    ensures after { view cell.new ≡ (step (meaning C.pick C.after_served C.after_joined C.after_cleared) (view cell.old) (call_of event.entry)).cell }
 {
     match event {
         Event::Open { place, rate, .. } => cell.open(place, rate)?,
