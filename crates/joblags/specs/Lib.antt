@@ -1,3 +1,0 @@
-pub mod Balances
-pub mod Sheets
-pub mod Words
