@@ -5,15 +5,18 @@ ghost use Rattle.keys.specs.Least.{least_of, Least};
 
 use super::key::Key;
 
-// The best so far, unless the entry at i comes before it.
+// The best so far, unless the entry at i comes before it. It is built anew, which is quicker than to copy it whole.
 fn better<K: Key + Copy>(best: Option<(usize, K)>, i: usize, entry: Option<K>) -> Option<(usize, K)>
     ensures { result ≡ better_of K.before best i entry }
 {
-    match entry {
-        None => best,
-        Some(key) => match best {
-            None => Some((i, key)),
-            Some((at, top)) => {
+    match best {
+        None => match entry {
+            None => None,
+            Some(key) => Some((i, key)),
+        },
+        Some((at, top)) => match entry {
+            None => Some((at, top)),
+            Some(key) => {
                 if key.is_before(&top) {
                     Some((i, key))
                 } else {

@@ -12,7 +12,8 @@ use keys::{Count, least};
 // A count stops here.
 const STOP: u64 = 9_223_372_036_854_775_807;
 
-#[derive(Drop)]
+#[repr(C)]
+#[derive(Clone, Copy)]
 pub struct LeastServed {
     credit: [u64; 64],
     extra: [u64; 64],

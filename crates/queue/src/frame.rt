@@ -1,4 +1,5 @@
 // A frame as the cell sees it: what it is called, and how many bytes it takes on the air.
+#[repr(C)]
 #[derive(Clone, Copy, PartialEq, Eq, Debug)]
 pub struct Frame {
     pub tag: u32,

@@ -17,6 +17,7 @@ use ring::Ring;
 use slots::ROOM;
 
 // At most 32 frames, first in first out, in memory of its own.
+#[repr(C)]
 #[derive(Clone, Copy)]
 pub struct Queue {
     ring: Ring,

@@ -3,6 +3,7 @@ ghost use Rattle.std.specs.Prelude.{◌<◌, ◌≤◌};
 
 use super::frame::Frame;
 
+#[repr(C)]
 #[derive(Clone, Copy)]
 pub struct Ring {
     pub(crate) frames: [Frame; 32],

@@ -2,6 +2,7 @@
 use queue::Queue;
 
 // Plain numbers. That rate times price is the link wherever a rate is booked, the table's owner sees to.
+#[repr(C)]
 #[derive(Clone, Copy)]
 pub struct Row {
     // the place is open

@@ -1,6 +1,7 @@
 // The two lists from which a chooser picks.
 ghost use Rattle.std.specs.Prelude.{◌≡◌};
 ghost use Rattle.model.specs.Lists.{in_list, stayed};
+ghost use Rattle.table.specs.Joiners.{any_joins};
 ghost use Rattle.table.specs.Places.{table_of};
 
 use chooser::{Entry, Line};
@@ -16,6 +17,18 @@ pub fn members(rows: &[Row; 64], line: Line) -> [bool; 64]
         is[place] = rows[place].stands_in(line);
     }
     is
+}
+
+// Whether a place is in a list now that was not.
+pub fn anybody_joined(rows: &[Row; 64], line: Line, before: &[bool; 64]) -> bool
+    ensures { result ≡ any_joins line before.now (table_of rows.now) }
+{
+    for k in 0..64usize {
+        if !before[k] & rows[k].stands_in(line) {
+            return true;
+        }
+    }
+    false
 }
 
 // What an offer says of those who stood in a list before and still do.

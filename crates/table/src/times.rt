@@ -24,6 +24,18 @@ pub fn due(rows: &[Row; 64]) -> Option<usize>
     least(&keys)
 }
 
+// Whether no place is active.
+pub fn nobody_active(rows: &[Row; 64]) -> bool
+    ensures { result ≡ none_active (table_of rows.now) }
+{
+    for k in 0..64usize {
+        if rows[k].active {
+            return false;
+        }
+    }
+    true
+}
+
 // The smallest virtual time of the active places.
 pub fn least_time(rows: &[Row; 64]) -> Option<u64>
     ensures { result ≡ least (table_of rows.now) }
