@@ -17,11 +17,11 @@ returns c =
     let some : Some l ≡ letter_of (get_or bs 0 0) = search rules in
     let zeros : None ≡ first_not_zero (unused l) bs = search rules in
     let clean : None ≡ first_unprintable (note_in bs) = search rules in
-    let n : c.from-le-bytes-length.result ≡ length_in bs = c.from-le-bytes-length.ensures ∙ sym (length_is bs (omega arith)) in
-    let v : c.from-le-bytes-value.result ≡ value_in bs = c.from-le-bytes-value.ensures ∙ sym (value_is bs (omega arith)) in
+    let n : c.from_le_bytes-length.result ≡ length_in bs = c.from_le_bytes-length.ensures ∙ sym (length_is bs (omega arith)) in
+    let v : c.from_le_bytes-value.result ≡ value_in bs = c.from_le_bytes-value.ensures ∙ sym (value_is bs (omega arith)) in
     let rest : List ℕ = take (length bs - 8) (drop 8 bs) in
     let t : rest ≡ note_in bs = ap (λ (k : ℕ). take (k - 8) (drop 8 bs)) c.requires in
-    let held : Letter → Contents = λ k. used k (place_in bs) c.from-le-bytes-length.result c.from-le-bytes-value.result rest in
+    let held : Letter → Contents = λ k. used k (place_in bs) c.from_le_bytes-length.result c.from_le_bytes-value.result rest in
     let go : (k : Letter) → l ≡ k → (e : Event) → c.match-letter.result ≡ e → contents e ≡ held k → Ok (contents c.match-letter.result) ≡ parsed c.args.number bs =
     λ k is e r d.
     accepted c.args.number bs l some zeros clean _ (ap contents r ∙ d ∙ (λ i. used (sym is i) (place_in bs) (n i) (v i) (t i)) ∙ says bs c.requires l (sym zeros)) in

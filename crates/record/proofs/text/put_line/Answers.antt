@@ -11,4 +11,4 @@ returns c =
     let text : ℕ → List ℕ → List ℕ = λ l t. head_text c.args.number l c.args.res ++ (32 ∷ (take 8 t ++ newline)) in
     let same : text c.byte.result c.note.result.now ≡ line_text c.args.number (contents c.args.event) c.args.res =
     λ i. text (letter i) (c.note.ensures i) in
-    at_front (retext same (chain c.put-head-head.ensures.put c.put-note.ensures.put (omega arith))) (omega arith)
+    at_front (retext same (chain c.put_head-head.ensures.put c.put_note.ensures.put (omega arith))) (omega arith)

@@ -8,6 +8,6 @@ returns c =
     let s : take (c.min-shown.result - 0) note ≡ take 8 note = shown_is note (c.min-shown.result - 0) (omega arith) in
     let small : length (take 8 note) ≤ 8 = simp length-take (omega arith) in
     record {
-      put = chain c.put-bytes-space.ensures (chain (retext s c.put-bytes-end.ensures) c.put-bytes.ensures (omega arith)) (omega arith);
+      put = chain c.put_bytes-space.ensures (chain (retext s c.put_bytes-end.ensures) c.put_bytes.ensures (omega arith)) (omega arith);
       bound = omega arith;
     }

@@ -1,26 +1,26 @@
 use Rattle.std.proofs.Common.{ℕ, ◌≤◌, List, [], ◌∷◌, ◌++◌, length, decimal, ap, arith}
 use Rattle.answer.specs.declared.turn.Turn.{Turn}
-use Rattle.record.specs.Lines.{kind_byte, sent_text}
+use Rattle.record.specs.Lines.{sent_text}
 use Rattle.record.proofs.Pasting.{chain, retext, decimal8, decimal16}
 use Rattle.record.proofs.text.put_turn.Goals as goal
 
-pub put-decimal-chosen-requires : goal.put-decimal-chosen-requires
-put-decimal-chosen-requires c = omega (arith, decimal8 c.args.turn.chosen (omega arith))
+pub put_decimal-chosen-requires : goal.put_decimal-chosen-requires
+put_decimal-chosen-requires c = omega (arith, decimal8 c.args.turn.chosen (omega arith))
 
-pub put-bytes-first-requires : goal.put-bytes-first-requires
-put-bytes-first-requires c = omega (arith, decimal8 c.args.turn.chosen (omega arith))
+pub put_bytes-first-requires : goal.put_bytes-first-requires
+put_bytes-first-requires c = omega (arith, decimal8 c.args.turn.chosen (omega arith))
 
-pub put-sent-sent-requires : goal.put-sent-sent-requires
-put-sent-sent-requires c = omega (arith, decimal8 c.args.turn.chosen (omega arith))
+pub put_sent-sent-requires : goal.put_sent-sent-requires
+put_sent-sent-requires c = omega (arith, decimal8 c.args.turn.chosen (omega arith))
 
-pub put-bytes-second-requires : goal.put-bytes-second-requires
-put-bytes-second-requires c = omega (arith, decimal8 c.args.turn.chosen (omega arith))
+pub put_bytes-second-requires : goal.put_bytes-second-requires
+put_bytes-second-requires c = omega (arith, decimal8 c.args.turn.chosen (omega arith))
 
-pub put-decimal-size-requires : goal.put-decimal-size-requires
-put-decimal-size-requires c = omega (arith, decimal8 c.args.turn.chosen (omega arith), decimal16 c.args.turn.length (omega arith))
+pub put_decimal-size-requires : goal.put_decimal-size-requires
+put_decimal-size-requires c = omega (arith, decimal8 c.args.turn.chosen (omega arith), decimal16 c.args.turn.length (omega arith))
 
-pub put-bytes-requires : goal.put-bytes-requires
-put-bytes-requires c = omega (arith, decimal8 c.args.turn.chosen (omega arith), decimal16 c.args.turn.length (omega arith))
+pub put_bytes-requires : goal.put_bytes-requires
+put_bytes-requires c = omega (arith, decimal8 c.args.turn.chosen (omega arith), decimal16 c.args.turn.length (omega arith))
 
 pub returns : goal.returns
 returns c =
@@ -31,10 +31,10 @@ returns c =
     record {
       put =
           retext (ap text c.kind_byte.ensures)
-          (chain c.put-decimal-chosen.ensures
-          (chain c.put-bytes-first.ensures
-          (chain c.put-sent-sent.ensures.put
-          (chain c.put-bytes-second.ensures
-          (chain c.put-decimal-size.ensures c.put-bytes.ensures (omega arith)) (omega arith)) (omega arith)) (omega arith)) (omega arith));
+          (chain c.put_decimal-chosen.ensures
+          (chain c.put_bytes-first.ensures
+          (chain c.put_sent-sent.ensures.put
+          (chain c.put_bytes-second.ensures
+          (chain c.put_decimal-size.ensures c.put_bytes.ensures (omega arith)) (omega arith)) (omega arith)) (omega arith)) (omega arith));
       bound = omega arith;
     }
