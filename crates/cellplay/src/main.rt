@@ -5,14 +5,11 @@ use answer::{Answer, Fault, Refusal};
 use cell::Cell;
 use chooser::Chooser;
 use least_served::LeastServed;
-use record::{fault_line, line, read};
+use record::{fault_line, line};
 use recording::fill;
-use replay::apply;
+use replay::{KEEP, Played, play_record};
 use std::io;
 use std::io::{BufReader, BufWriter, Read, Write};
-
-// What a leading session keeps of its own turns, in quarters.
-const KEEP: u8 = 2;
 
 // The cell's answer, as a line shows it.
 fn shown(res: Result<Answer, Fault>) -> Result<Answer, Refusal> {
@@ -32,15 +29,14 @@ fn play<C: Chooser, R: Read, W: Write>(
     let mut text = [0u8; 64];
     for number in 1..recording::RECORDS + 1 {
         let n = fill(reader, &mut bytes)?;
-        match read(&bytes[0..n], number) {
-            Ok(None) => break,
-            Ok(Some((event, _))) => {
-                let result = shown(apply(cell, event, number));
-                if let Ok(end) = line(number, event, result, &mut text) {
+        match play_record(cell, &bytes[0..n], number) {
+            Played::Ended => break,
+            Played::Asked(event, result) => {
+                if let Ok(end) = line(number, event, shown(result), &mut text) {
                     out.write_all(&text[0..end])?;
                 }
             }
-            Err(fault) => {
+            Played::Unread(fault) => {
                 if let Ok(end) = fault_line(number, fault.refusal, &mut text) {
                     out.write_all(&text[0..end])?;
                 }

@@ -28,7 +28,8 @@ fn put_decimal(out: &mut [u8], at: usize, n: u64) -> usize
     }
 }
 
-fn kind_byte(kind: Kind) -> u8
+// The letter by which a line names the kind of a turn.
+pub fn kind_byte(kind: Kind) -> u8
     ensures { result ≡ kind_byte kind }
 {
     match kind {

@@ -25,3 +25,52 @@ pub fn fill<R: Read>(reader: &mut R, bytes: &mut [u8; 16]) -> io::Result<usize>
     }
     Ok(at)
 }
+
+#[cfg(test)]
+mod tests {
+    use super::*;
+    use std::test::Fail;
+
+    // An input of the bytes 1, 2 and so on, that gives one at a time.
+    #[derive(Drop)]
+    struct Slow {
+        given: u8,
+        end: u8,
+    }
+
+    impl Read for Slow {
+        fn read(&mut self, buf: &mut [u8]) -> io::Result<usize> {
+            if buf.is_empty() || self.given >= self.end {
+                return Ok(0);
+            }
+            self.given += 1;
+            buf[0] = self.given;
+            Ok(1)
+        }
+    }
+
+    // No contract can say which bytes an input gives, so it is tested that they come in order and none is left out.
+    #[test]
+    fn one_byte_at_a_time(rt: HostRuntime) -> Result<(), Fail> {
+        for (end, full) in [(0, 0), (1, 1), (15, 15), (16, 16), (40, 16)] {
+            let mut reader = Slow { given: 0, end };
+            let mut bytes = [0u8; 16];
+            let Ok(n) = fill(&mut reader, &mut bytes) else {
+                return Err(Fail::new("refused"));
+            };
+            assert_eq!(rt; n, full);
+            for (i, b) in bytes.iter().enumerate() {
+                if i < full {
+                    assert_eq!(rt; *b as usize, i + 1);
+                }
+            }
+        }
+        Ok(())
+    }
+
+    #[test]
+    fn a_million_records(rt: HostRuntime) {
+        assert_eq!(rt; RECORDS, 1_000_000);
+        assert_eq!(rt; BYTES, RECORDS * 16);
+    }
+}

@@ -27,7 +27,8 @@ pub fn apply<C: Chooser>(cell: &mut Cell<C>, event: Event, number: u64) -> Resul
     }
 }
 
-fn call<C: Chooser>(cell: &mut Cell<C>, event: Event) -> Result<Answer, Refusal>
+// The same without a record.
+pub fn call<C: Chooser>(cell: &mut Cell<C>, event: Event) -> Result<Answer, Refusal>
     ensures answer { result ≡ (step (meaning C.pick C.after_served C.after_joined C.after_cleared) (view cell.old) (call_of event.entry)).answer }
     ensures after { view cell.new ≡ (step (meaning C.pick C.after_served C.after_joined C.after_cleared) (view cell.old) (call_of event.entry)).cell }
 {

@@ -1,0 +1,49 @@
+-- What the next record of an input does to a cell.
+use Rattle.std.specs.Prelude.{ℕ, true, false, List, Some, None, Ok, Err, Option, Result}
+use Rattle.answer.specs.declared.fault.Fault.{Fault}
+use Rattle.answer.specs.declared.turn.Answer.{Answer}
+use Rattle.model.specs.Calls.{Call, opening, closing, arrival, report, turn, step}
+use Rattle.model.specs.Cell.{Cell}
+use Rattle.model.specs.Meaning.{Meaning}
+use Rattle.record.specs.Layout.{Contents, contents}
+use Rattle.record.specs.declared.letter.Letter.{Letter}
+use Rattle.record.specs.declared.letter.Letter.TheVariants.{O, C, A, G, B, T}
+use Rattle.replay.specs.Events.{at_record}
+use Rattle.replay.specs.declared.played.Played.{Played}
+use Rattle.replay.specs.declared.played.Played.TheVariants.{Ended, Asked, Unread}
+
+-- the call of a letter, with what the record says
+abbrev pub call_by : Letter → Contents → Call
+call_by O c = opening c.place c.value
+call_by C c = closing c.place
+call_by A c = arrival c.place c.value c.length
+call_by G c = report c.place true
+call_by B c = report c.place false
+call_by T c = turn
+
+abbrev pub call_in : Contents → Call
+call_in c = call_by c.letter c
+
+-- the input has ended, the cell was asked and answered, or there is no record to ask it
+pub data Outcome : Type 0 where
+  ended : Outcome
+  asked : Contents → Result Answer Fault → Outcome
+  unread : Fault → Outcome
+
+-- what the code answers, in these terms
+abbrev pub outcome : Played → Outcome
+outcome Ended = ended
+outcome (Asked event result) = asked (contents event) result
+outcome (Unread fault) = unread fault
+
+module _ {C : Type 0} (M : Meaning C) (x : Cell C) where
+  abbrev pub outcome_of : ℕ → Result (Option (Contents × List ℕ)) Fault → Outcome
+  outcome_of number (Ok None) = ended
+  outcome_of number (Ok (Some r)) = asked r.0 (at_record number (step M x (call_in r.0)).answer)
+  outcome_of number (Err fault) = unread fault
+
+  -- only a record that was read changes the cell
+  abbrev pub cell_after : Result (Option (Contents × List ℕ)) Fault → Cell C
+  cell_after (Ok None) = x
+  cell_after (Ok (Some r)) = (step M x (call_in r.0)).cell
+  cell_after (Err fault) = x
