@@ -1,0 +1,22 @@
+// The base unit's cell for C: plain numbers, byte slices, and a cell in the caller's memory.
+#![tactic(auto)]
+
+mod asks;
+mod calls;
+mod feed;
+mod outs;
+mod parts;
+mod tell;
+mod unit;
+
+pub use asks::{
+    dalgweniz_booked, dalgweniz_count, dalgweniz_frame, dalgweniz_keep, dalgweniz_mark,
+    dalgweniz_session, dalgweniz_size, dalgweniz_turns,
+};
+pub use calls::{
+    dalgweniz_arrive, dalgweniz_close, dalgweniz_make, dalgweniz_open, dalgweniz_report,
+    dalgweniz_turn,
+};
+pub use feed::dalgweniz_feed;
+pub use outs::{Fed, FrameOut, StandingOut, TurnOut};
+pub use unit::Unit;

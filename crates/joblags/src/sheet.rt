@@ -1,0 +1,100 @@
+// A job sheet: how the cell and each of its open places stand after a record.
+ghost use Rattle.std.specs.Prelude.{◌≡◌};
+ghost use Rattle.cell.specs.Asked.{standings};
+ghost use Rattle.cell.specs.View.{view};
+ghost use Rattle.model.specs.Calls.{asked};
+ghost use Rattle.joblags.specs.Sheets.{head_of, line_of};
+
+use crate::balance::Balance;
+use cell::{Cell, Standing};
+use std::fmt;
+
+// Its first line.
+#[derive(Drop)]
+pub(crate) struct Head {
+    pub after: u64,
+    pub mark: u64,
+    pub booked: u32,
+    pub turns: u32,
+}
+
+// The line of an open place.
+#[derive(Drop)]
+pub(crate) struct Line {
+    pub place: u8,
+    pub standing: Standing,
+}
+
+#[derive(Drop)]
+pub(crate) struct Sheet<'a, C> {
+    pub after: u64,
+    pub cell: &'a Cell<C>,
+}
+
+impl Head {
+    fn of<C>(cell: &Cell<C>, after: u64) -> Head
+        ensures { result ≡ head_of after (view cell.now) }
+    {
+        Head {
+            after,
+            mark: cell.mark(),
+            booked: cell.booked(),
+            turns: cell.turns(),
+        }
+    }
+}
+
+impl Line {
+    // None where the place isn't open.
+    fn of<C>(cell: &Cell<C>, place: u8) -> Option<Line>
+        ensures { result ≡ line_of place (standings (asked (view cell.now) place)) }
+    {
+        match cell.session(place) {
+            Ok(standing) => Some(Line { place, standing }),
+            Err(_) => None,
+        }
+    }
+}
+
+impl fmt::Display for Head {
+    fn fmt<W: fmt::Write>(&self, f: &mut fmt::Formatter<W>) -> fmt::Result {
+        let after = self.after;
+        let mark = self.mark;
+        let booked = self.booked;
+        let turns = self.turns;
+        write!(
+            f,
+            "after record {after} mark {mark} booked {booked} turns {turns}"
+        )
+    }
+}
+
+// The widths hold whatever a million records bring: 16 digits of virtual time, 10 of lag and its sign.
+impl fmt::Display for Line {
+    fn fmt<W: fmt::Write>(&self, f: &mut fmt::Formatter<W>) -> fmt::Result {
+        let place = self.place;
+        let rate = self.standing.rate;
+        let time = self.standing.virtual_time;
+        let lag = self.standing.lag;
+        let word = Balance::of(lag).word();
+        let channel = if self.standing.good { "good" } else { "bad" };
+        let waiting = self.standing.waiting;
+        write!(f, "place {place:>2} rate {rate:>6} time {time:>16} ")?;
+        write!(
+            f,
+            "lag {lag:>11} {word:<5} channel {channel:<4} waiting {waiting:>2}"
+        )
+    }
+}
+
+impl<C> fmt::Display for Sheet<'_, C> {
+    fn fmt<W: fmt::Write>(&self, f: &mut fmt::Formatter<W>) -> fmt::Result {
+        writeln!(f, "{}", Head::of(self.cell, self.after))?;
+        for place in 0..64 {
+            if let Some(line) = Line::of(self.cell, place) {
+                writeln!(f, "{line}")?;
+            }
+        }
+        Ok(())
+    }
+}
