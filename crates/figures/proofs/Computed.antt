@@ -11,6 +11,7 @@ use Rattle.model.specs.History.{after}
 use Rattle.model.proofs.Figures.{worked}
 use Rattle.figures.specs.Run.{answers}
 use Rattle.figures.specs.Figures.{AllFigures}
+use Rattle.figures.specs.Twelfth.{TwelfthFigures}
 
 pub all_figures : AllFigures
 unfolding all_sound by_place at change vacancies total first least greatest chosen stayed share departed depart departures mark_after told joins all_joins settled turn_after accepted step after answers
@@ -24,3 +25,7 @@ all_figures = record {
   lag_0 = refl;
   lag_1 = refl;
 }
+
+pub twelfth_figures : TwelfthFigures
+unfolding all_sound by_place at change vacancies total first least greatest chosen stayed share departed depart departures mark_after told joins all_joins settled turn_after accepted step after
+twelfth_figures = record { time_0 = refl; time_1 = refl; allowance_0 = refl; allowance_1 = refl }

@@ -2,10 +2,18 @@
 #![tactic(auto)]
 
 ghost use Rattle.figures.specs.Figures.{AllFigures};
+ghost use Rattle.figures.specs.Twelfth.{TwelfthFigures};
 
 // Every worked figure follows from the definitions.
 pub fn figures_stand() -> u8
     ensures { AllFigures }
+{
+    0
+}
+
+// So do the virtual times and the allowances after the twelfth call of the worked run.
+pub fn twelfth_figures_stand() -> u8
+    ensures { TwelfthFigures }
 {
     0
 }
