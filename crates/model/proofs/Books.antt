@@ -10,7 +10,7 @@ use Rattle.model.specs.Meaning.{Meaning, Lawful}
 use Rattle.model.specs.Cell.{Cell}
 use Rattle.model.specs.Calls.{Call, step, new}
 use Rattle.model.specs.Sound.{Orderly, Sound}
-use Rattle.model.proofs.Ledger.{Row, Book, Ordered, owing}
+use Rattle.model.proofs.Ledger.{Row, Book, Ordered}
 use Rattle.model.proofs.Share.{least_reached}
 use Rattle.model.proofs.Settle.{least_some}
 use Rattle.model.proofs.Senders.{lag_within}

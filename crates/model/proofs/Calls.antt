@@ -14,7 +14,7 @@ use Rattle.model.specs.Cell.{Cell, settled}
 use Rattle.model.specs.Calls.{Call, arrived, Outcome, changed, decide, turn_after, accepted, step}
 use Rattle.model.specs.History.{sent_frame, sent_from, taken, taken_from, bytes}
 use Rattle.model.proofs.Tables.{total_change, total_same}
-use Rattle.model.proofs.Ledger.{Ordered, Move, owing}
+use Rattle.model.proofs.Ledger.{Ordered, Move}
 use Rattle.model.proofs.Senders.{Rightly, decides, Chosen, chosen_is}
 use Rattle.model.proofs.Turn.{way_fits, Part, named}
 use Rattle.model.proofs.Turned.{turn_book, turn_owes, turn_rises, turn_pays, turn_part, turn_price}

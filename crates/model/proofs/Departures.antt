@@ -361,7 +361,7 @@ depart_waits (suc n) t j w =
     le_transℤ _ _ _ (once_waits t (first departing t) refl j w)
     (depart_waits n (departed t (first departing t)) j (once_same waiting (λ n s. refl) (λ s. refl) t (first departing t) refl j ∙ w))
 
-depart_still : (n : ℕ) (t : Table) → first departing t ≡ None → depart n t ≡ t
+pub depart_still : (n : ℕ) (t : Table) → first departing t ≡ None → depart n t ≡ t
 unfolding depart departed
 depart_still zero t e = refl
 depart_still (suc n) t e = ap (λ (o : Option ℕ). depart n (departed t o)) e ∙ depart_still n t e

@@ -3,10 +3,9 @@ use Rattle.std.proofs.Common.{ℕ, refl}
 use Rattle.model.specs.Table.{at, change, vacancies, total, first, least, greatest, chosen}
 use Rattle.model.specs.Lists.{stayed}
 use Rattle.model.specs.Meaning.{Meaning}
-use Rattle.model.specs.Turn.{turned}
 use Rattle.model.specs.Departures.{share, departed, depart, departures}
 use Rattle.model.specs.Cell.{mark_after, told, joins, all_joins, settled}
-use Rattle.model.specs.Calls.{decide, heard, turn_after, accepted, step}
+use Rattle.model.specs.Calls.{turn_after, accepted, step}
 use Rattle.model.specs.History.{after}
 use Rattle.model.specs.Figures.{Worked}
 

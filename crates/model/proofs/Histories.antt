@@ -38,16 +38,16 @@ use Rattle.model.proofs.Books.{row_status, new_ordered, new_within, sound_from, 
 -- ---- answers
 
 -- an answer is one thing
-abbrev Reply : Type 0
+abbrev pub Reply : Type 0
 Reply = Result Answer Refusal
 
-not_turned : {X : Type 0} (a : Turn) → ◌≡◌ {A = Reply} (Ok Done) (Ok (Turned a)) → X
+pub not_turned : {X : Type 0} (a : Turn) → ◌≡◌ {A = Reply} (Ok Done) (Ok (Turned a)) → X
 not_turned a e = let z : ◌≡◌ {A = ℕ} 0 1 = cc in absurd (omega arith)
 
-not_refused : {X : Type 0} (a : Answer) (why : Refusal) → ◌≡◌ {A = Reply} (Err why) (Ok a) → X
+pub not_refused : {X : Type 0} (a : Answer) (why : Refusal) → ◌≡◌ {A = Reply} (Err why) (Ok a) → X
 not_refused a why e = let z : ◌≡◌ {A = ℕ} 0 1 = cc in absurd (omega arith)
 
-same_turn : (a b : Turn) → ◌≡◌ {A = Reply} (Ok (Turned a)) (Ok (Turned b)) → a ≡ b
+pub same_turn : (a b : Turn) → ◌≡◌ {A = Reply} (Ok (Turned a)) (Ok (Turned b)) → a ≡ b
 same_turn a b e = cc
 
 no_sender : {X : Type 0} (s : Sent) → Some s ≡ None → X
@@ -173,7 +173,7 @@ module _ {C : Type 0} (M : Meaning C) (law : Lawful M) where
   rises x (k ∷ ks) s = le_trans (step_good M law x k s).rises (rises (step M x k).cell ks (step_good M law x k s).ordered)
 
   -- a new cell, after some calls
-  reached : Throughout M Ordered
+  pub reached : Throughout M Ordered
   reached keep c ks = ordered (new keep c) ks (new_ordered keep c)
 
   reached_within : Throughout M (λ x. x.keep ≤ quarters → Within x)

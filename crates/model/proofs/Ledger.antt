@@ -1,5 +1,5 @@
 -- What the argument about a session's share reads off a cell, and what one call may do to it. Nothing here says how a turn works.
-use Rattle.std.proofs.Common.{◌≡◌, ℕ, ◌+◌, ◌-◌, ◌*◌, ◌≤◌, true, false, ◌||◌, ◌⊎◌, length, ℤ, pos, ◌+ℤ◌, ◌≤ℤ◌, Some}
+use Rattle.std.proofs.Common.{◌≡◌, ℕ, ◌+◌, ◌-◌, ◌*◌, ◌≤◌, true, false, ◌||◌, ◌⊎◌, length, pos, ◌+ℤ◌, ◌≤ℤ◌, Some}
 use Rattle.std.specs.List.{AllByRecursion as All}
 use Rattle.tariff.specs.Tariff.{link}
 use Rattle.model.specs.Limits.{places, longest, most_waiting, most_turns}

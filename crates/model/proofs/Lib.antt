@@ -7,6 +7,8 @@ pub mod Chosen
 pub mod Senders
 pub mod Turn
 pub mod Turned
+pub mod Reasons
+pub mod Debts
 pub mod Calm
 pub mod Cases
 pub mod Calls
@@ -15,6 +17,7 @@ pub mod Queues
 pub mod Books
 pub mod Laws
 pub mod Histories
+pub mod Further
 pub mod Meant
 pub mod Order
 pub mod Figures

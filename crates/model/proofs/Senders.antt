@@ -28,7 +28,7 @@ not_vacant Credit = refl
 not_vacant Extra = refl
 
 -- an offer offers exactly those in the list
-offered_is : (l : Line) (t : Table) (j : ℕ) → offered_at (offer l t) j ≡ in_line l (at t j)
+pub offered_is : (l : Line) (t : Table) (j : ℕ) → offered_at (offer l t) j ≡ in_line l (at t j)
 unfolding at
 offered_is l [] j = not_vacant l
 offered_is l (s ∷ t) zero = entry_offered (in_line l s) s

@@ -7,7 +7,7 @@ use borrow.Author.Differences.{ints}
 use Rattle.tariff.specs.Tariff.{link}
 use Rattle.model.specs.Limits.{longest}
 use Rattle.model.specs.Session.{Session, able, waiting, lead, below_zero}
-use Rattle.model.specs.Table.{Table, at, total, least, sooner}
+use Rattle.model.specs.Table.{Table, at, least, sooner}
 use Rattle.model.specs.Meaning.{Meaning}
 use Rattle.model.specs.Cell.{Cell}
 use Rattle.model.specs.Calls.{Call, step}

@@ -9,6 +9,8 @@ pub mod Cell
 pub mod Calls
 pub mod Laws
 pub mod Sound
+pub mod Reasons
 pub mod History
 pub mod Promises
+pub mod Further
 pub mod Figures

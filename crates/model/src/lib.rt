@@ -2,6 +2,7 @@
 #![tactic(auto)]
 
 ghost use Rattle.model.specs.Figures.{FiguresStand};
+ghost use Rattle.model.specs.Further.{FurtherPromises};
 ghost use Rattle.model.specs.Laws.{DepartsJustly};
 ghost use Rattle.model.specs.Meaning.{meaning};
 ghost use Rattle.model.specs.Promises.{Promises, GetsItsShare, IdlesOnlyIfNoneAble, ChoosesTheLeastAdvanced};
@@ -107,6 +108,14 @@ pub fn keeps_its_books<C: Chooser>() -> u8
     ensures { KeepsItsBooks {C = C} (meaning C.pick C.after_served C.after_joined C.after_cleared) }
 {
     keeps_its_promises::<C>()
+}
+
+// The kind of a turn says why it went to whom it went, the turn is charged to the chosen session, and what another sends in it
+// is written down as a debt.
+pub fn keeps_further_promises<C: Chooser>() -> u8
+    ensures { FurtherPromises {C = C} (meaning C.pick C.after_served C.after_joined C.after_cleared) }
+{
+    0
 }
 
 // A departing lag is handed out whole, by floors, to the active alone, until nobody is left to depart.

@@ -1,0 +1,9 @@
+-- Cites the theorem, with the law of the chooser at hand.
+use Rattle.model.proofs.Further.{further_promises}
+use Rattle.model.proofs.Meant.{lawful}
+use Rattle.model.proofs.keeps_further_promises.Goals as goal
+
+pub returns : goal.returns
+returns g c =
+    further_promises _
+    (lawful g.C.Chooser.pick g.C.Chooser.after_served g.C.Chooser.after_joined g.C.Chooser.after_cleared g.met.C.Chooser.picks)
