@@ -1,6 +1,6 @@
 -- The cell of zeros.
 use Rattle.std.proofs.Common.{◌≡◌, ℕ, zero, suc, false, List, [], ◌∷◌, length, replicate, pos, sym, refl, ap, subst, lit<, lit≤}
-use Rattle.std.specs.List.{AllByRecursion as All}
+use Rattle.std.specs.List.{AllByRecursion}
 use Rattle.cell.proofs.Rows.{table_vacant}
 use Rattle.least_served.specs.declared.counts.LeastServed.{LeastServed}
 use Rattle.least_served.specs.Served.{unserved}
@@ -49,7 +49,7 @@ row_is_vacant : seen zero_row ≡ vacant
 unfolding zero_row held
 row_is_vacant = refl
 
-all_zero : (n : ℕ) → All ZeroRow (replicate n zero_row)
+all_zero : (n : ℕ) → AllByRecursion ZeroRow (replicate n zero_row)
 all_zero zero = tt
 all_zero (suc n) = (row_is_zero, all_zero n)
 

@@ -1,6 +1,6 @@
 -- The ways in which a call can go: refused, or accepted with all its tests passed.
 use Rattle.std.proofs.Common.{◌≡◌, ℕ, ◌+◌, ◌<◌, ◌≤◌, Bool, true, false, cond, eqb, ltb, leb, List, [], ◌∷◌, length, Some, None, Err, Option, sym, refl, subst, arith}
-use Rattle.std.specs.List.{AllByRecursion as All}
+use Rattle.std.specs.List.{AllByRecursion}
 use Rattle.std.proofs.lemmas.Bool.{not-false, or_parts, eqb-false, ltb-false, leb-false}
 use Rattle.answer.specs.declared.refusal.Refusal.{Refusal}
 use Rattle.tariff.specs.Tariff.{link, in_tariff}
@@ -13,12 +13,12 @@ use Rattle.model.specs.Calls.{Outcome, turn_of, accepted, outcome, step}
 use Rattle.model.proofs.Chosen.{chosen_some}
 
 -- no refusal: no condition of the list held
-passed : (cs : List (Bool × Refusal)) → first_refusal cs ≡ None → All (λ c. c.0 ≡ false) cs
+passed : (cs : List (Bool × Refusal)) → first_refusal cs ≡ None → AllByRecursion (λ c. c.0 ≡ false) cs
 passed [] e = tt
 passed (c ∷ cs) e = by c.0 refl e (λ g. passed cs g)
   where
     by : (b : Bool) → c.0 ≡ b → cond b (Some c.1) (first_refusal cs) ≡ None →
-        (first_refusal cs ≡ None → All (λ c. c.0 ≡ false) cs) → (c.0 ≡ false) × All (λ c. c.0 ≡ false) cs
+        (first_refusal cs ≡ None → AllByRecursion (λ c. c.0 ≡ false) cs) → (c.0 ≡ false) × AllByRecursion (λ c. c.0 ≡ false) cs
     by true f g ih = let z : ◌≡◌ {A = ℕ} 0 1 = cc in absurd (omega arith)
     by false f g ih = (f, ih g)
 
@@ -37,7 +37,7 @@ module _ {C : Type 0} (M : Meaning C) (x : Cell C) (size : length x.table ≡ pl
   inside : (p : ℕ) → leb places p ≡ false → p < length x.table
   inside p e = omega (arith, leb-false places p e, size)
 
-  accepts : (call : Call) → All (λ c. c.0 ≡ false) (refusals x call) → P call (accepted M x call)
+  accepts : (call : Call) → AllByRecursion (λ c. c.0 ≡ false) (refusals x call) → P call (accepted M x call)
   unfolding accepted
   accepts (opening p r) h =
       opens p r (inside p h.0) h.1.0 (not-false (in_tariff r) h.1.1.0)

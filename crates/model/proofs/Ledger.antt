@@ -1,6 +1,6 @@
 -- What the argument about a session's share reads off a cell, and what one call may do to it. Nothing here says how a turn works.
 use Rattle.std.proofs.Common.{◌≡◌, ℕ, ◌+◌, ◌-◌, ◌*◌, ◌≤◌, true, false, ◌||◌, ◌⊎◌, length, pos, ◌+ℤ◌, ◌≤ℤ◌, Some}
-use Rattle.std.specs.List.{AllByRecursion as All}
+use Rattle.std.specs.List.{AllByRecursion}
 use Rattle.tariff.specs.Tariff.{link}
 use Rattle.model.specs.Limits.{places, longest, most_waiting, most_turns}
 use Rattle.model.specs.Session.{Session, vacant, waiting, leads, above_zero}
@@ -23,7 +23,7 @@ pub record Row (m : ℕ) (s : Session) : Type 0 where
   pub near : s.virtual_time ≤ m + longest * s.price
   pub ahead : s.active ≡ true → m ≤ s.virtual_time
   pub quiet : s.active ≡ false → (s.lag ≡ pos 0) × (waiting s ≡ false)
-  pub frames : All Fits s.queue
+  pub frames : AllByRecursion Fits s.queue
   pub room : length s.queue ≤ most_waiting
 
 -- a table, at a mark, during a call

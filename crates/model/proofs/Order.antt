@@ -7,7 +7,7 @@ use mathlib.Core.List.{is_set}
 use mathlib.Core.HLevel.{Unit-prop, Π_prop, →_prop, ×_prop, hedberg}
 use mathlib.Core.Logic.{∥∥₁_elim}
 use lib.IntN.{ℤ_set}
-use Rattle.std.specs.List.{AllByRecursion as All}
+use Rattle.std.specs.List.{AllByRecursion}
 use Rattle.model.specs.Session.{Frame, Session}
 use Rattle.model.specs.Table.{Table, at}
 use Rattle.model.specs.Sound.{Fits, Orderly, Books, InOrder}
@@ -41,7 +41,7 @@ session_set s t p q i j = record {
 fits_prop : (f : Frame) → IsProp (Fits f)
 fits_prop f = ×_prop le_prop le_prop
 
-frames_prop : (q : List Frame) → IsProp (All Fits q)
+frames_prop : (q : List Frame) → IsProp (AllByRecursion Fits q)
 frames_prop [] = Unit-prop
 frames_prop (f ∷ q) = ×_prop (fits_prop f) (frames_prop q)
 

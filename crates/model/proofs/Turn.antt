@@ -5,7 +5,7 @@ use native.Mathlib.Decide.{ℕ_discrete}
 use lib.Signed.{lt_z}
 use borrow.Author.Differences.{ints}
 use Rattle.std.proofs.lemmas.Bool.{both_ways, false≢true, and_parts, cond-true, cond-false, eq-eqb, ne_eqb}
-use Rattle.std.specs.List.{AllByRecursion as All}
+use Rattle.std.specs.List.{AllByRecursion}
 use Rattle.tariff.specs.Tariff.{link}
 use Rattle.model.specs.Limits.{longest, quarters}
 use Rattle.model.specs.Session.{Frame, Session, able, waiting, some_wait, leads, lags, above_zero}
@@ -28,10 +28,10 @@ pub record Charges (n : ℕ) (f : Session → Session) : Type 0 where
   pub price : (s : Session) → (f s).price ≡ s.price
   pub active : (s : Session) → (f s).active ≡ s.active
   pub time : (s : Session) → (f s).virtual_time ≡ s.virtual_time + n * s.price
-  pub frames : (s : Session) → All Fits s.queue → All Fits (f s).queue
+  pub frames : (s : Session) → AllByRecursion Fits s.queue → AllByRecursion Fits (f s).queue
   pub room : (s : Session) → length (f s).queue ≤ length s.queue
 
-all_rest : (q : List Frame) → All Fits q → All Fits (rest q)
+all_rest : (q : List Frame) → AllByRecursion Fits q → AllByRecursion Fits (rest q)
 all_rest [] a = a
 all_rest (f ∷ q) a = a.1
 
@@ -109,7 +109,7 @@ module _ (keep n : ℕ) (t : Table) (c : ℕ) (P : Option ℕ → Table → Type
   each_way idle r = idles r
 
 -- no frame that is sent is longer than the longest
-front_fits : (q : List Frame) → some_wait q ≡ true → All Fits q → (front q).length ≤ longest
+front_fits : (q : List Frame) → some_wait q ≡ true → AllByRecursion Fits q → (front q).length ≤ longest
 front_fits [] e a = absurd (false≢true e)
 front_fits (f ∷ q) e a = a.0.1
 

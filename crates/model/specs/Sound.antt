@@ -1,7 +1,7 @@
 -- The books of a cell are in order: what holds before the first call and after each. From it follows how large every number
 -- can get.
 use Rattle.std.specs.Prelude.{◌≡◌, ℕ, ◌+◌, ◌*◌, ◌<◌, ◌≤◌, true, false, ◌||◌, length, pos, Some, unsigned_abs}
-use Rattle.std.specs.List.{AllByRecursion as All}
+use Rattle.std.specs.List.{AllByRecursion}
 use Rattle.tariff.specs.Tariff.{link}
 use Rattle.model.specs.Limits.{places, longest, most_waiting, most_turns, quarters, dearest}
 use Rattle.model.specs.Session.{Frame, Session, vacant, waiting, leads, above_zero}
@@ -20,7 +20,7 @@ pub record Orderly (mark turns : ℕ) (s : Session) : Type 0 where
   pub near : s.virtual_time ≤ mark + longest * s.price  -- one frame beyond the mark at most
   pub early : s.virtual_time ≤ dearest * turns
   pub modest : unsigned_abs s.allowance ≤ quarters * (dearest * turns)
-  pub frames : All Fits s.queue
+  pub frames : AllByRecursion Fits s.queue
   pub room : length s.queue ≤ most_waiting
 
 -- all places together; it is the sum of the lags above zero that is bounded, since a departing lag can go whole to one session

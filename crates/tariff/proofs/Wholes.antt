@@ -5,7 +5,7 @@ use Rattle.std.specs.Ordering.{nat_cmp}
 use Rattle.std.specs.List.Sorted.{IsBinarySearchResult}
 use Rattle.std.proofs.lemmas.List.{get_or_default}
 use Rattle.std.proofs.lemmas.List.Sorted.{searched, IsNonDecreasingBy-from_all_adjacent}
-use Rattle.std.specs.List.{ContainsAt as Has, HoldsAt}
+use Rattle.std.specs.List.{ContainsAt, HoldsAt}
 use Rattle.std.proofs.lemmas.Bool.{and_parts, and_from, or_cases, or_left, or_right, eqb-true, eq-eqb, lt-ltb, ltb-true, cases_Bool, cases_lt, not-true, both_ways}
 use Rattle.tariff.specs.Tariff.{in_tariff, Whole}
 
@@ -40,7 +40,7 @@ rising_ascends low (x ∷ []) t i h = absurd (omega arith)
 rising_ascends low (x ∷ y ∷ xs) t zero h = ltb-true x y (parts x y xs (parts low x (y ∷ xs) t).1.1).0
 rising_ascends low (x ∷ y ∷ xs) t (suc i) h = rising_ascends x (y ∷ xs) (parts low x (y ∷ xs) t).1.1 i (omega arith)
 
-has_member : (n : ℕ) (xs : List ℕ) → member n xs ≡ true → Has xs n
+has_member : (n : ℕ) (xs : List ℕ) → member n xs ≡ true → ContainsAt xs n
 has_member n [] t = let z : ◌≡◌ {A = ℕ} 0 1 = cc in absurd (omega arith)
 has_member n (x ∷ xs) t =
     ⊎_elim
@@ -54,7 +54,7 @@ pairs_at xs (suc n) t k h =
     let p = and_parts _ _ t in
     ⊎_elim (λ (lt : k < n). pairs_at xs n p.1 k lt) (λ (ge : n ≤ k). let e : n ≡ k = omega arith in subst (λ (m : ℕ). paired xs m ≡ true) e p.0) (cases_lt k n)
 
-both_stand : (xs : List ℕ) (n : ℕ) → paired xs n ≡ true → in_tariff n ≡ true → Has xs n × Has xs (720720 / n)
+both_stand : (xs : List ℕ) (n : ℕ) → paired xs n ≡ true → in_tariff n ≡ true → ContainsAt xs n × ContainsAt xs (720720 / n)
 both_stand xs n t d =
     ⊎_elim
     (λ e. absurd (both_ways _ (not-true _ e) d))
@@ -66,7 +66,7 @@ divisor zero k e = let z : ◌≡◌ {A = ℕ} 0 720720 = sym (zero-mul k) ∙ e
 divisor (suc n) k e =
     and_from _ _ (lt-ltb 0 (suc n) (omega arith)) (eq-eqb _ 0 (subst (λ (m : ℕ). m % suc n ≡ 0) e (mul-mod_right (suc n) k)))
 
-complete_from : (xs : List ℕ) → pairs xs 849 ≡ true → (n k : ℕ) → n * k ≡ 720720 → Has xs n
+complete_from : (xs : List ℕ) → pairs xs 849 ≡ true → (n k : ℕ) → n * k ≡ 720720 → ContainsAt xs n
 complete_from xs t n k e =
     ⊎_elim
     (λ (lt : n < 849). (both_stand xs n (pairs_at xs 849 t n lt) (divisor n k e)).0)
@@ -76,7 +76,7 @@ complete_from xs t n k e =
     let e' : k * n ≡ 720720 = mul_comm k n ∙ e in
     let some = ltb-true 0 k (and_parts _ _ (divisor k n e')).0 in
     let back : 720720 / k ≡ n = ap (λ (m : ℕ). m / k) (sym e) ∙ mul-div_cancel n some in
-    subst (Has xs) back (both_stand xs k (pairs_at xs 849 t k lt) (divisor k n e')).1)
+    subst (ContainsAt xs) back (both_stand xs k (pairs_at xs 849 t k lt) (divisor k n e')).1)
     (λ (ge' : 849 ≤ k). let big : 849 * 849 ≤ n * k = mul-le-mul ge ge' in absurd (omega arith))
     (cases_lt k 849))
     (cases_lt n 849)

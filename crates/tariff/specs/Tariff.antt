@@ -1,6 +1,6 @@
 -- The tariff. The link has 720,720 units, and a rate may be booked when it divides them.
 use Rattle.std.specs.Prelude.{◌≡◌, ℕ, ◌+◌, ◌*◌, ◌/◌, ◌%◌, ◌<◌, Bool, true, ◌&&◌, List, length, ◌==◌, nat_lt, slice_index}
-use Rattle.std.specs.List.{ContainsAt as Has}
+use Rattle.std.specs.List.{ContainsAt}
 
 abbrev pub link : ℕ
 link = 720720
@@ -16,4 +16,4 @@ pub record Whole (rates : List ℕ) : Type 0 where
   pub counted : length rates ≡ 240
   pub ascends : (i : ℕ) → i + 1 < length rates → slice_index rates i < slice_index rates (i + 1)
   pub divides : (i : ℕ) → i < length rates → in_tariff (slice_index rates i) ≡ true
-  pub complete : (rate price : ℕ) → rate * price ≡ link → Has rates rate
+  pub complete : (rate price : ℕ) → rate * price ≡ link → ContainsAt rates rate
