@@ -1,9 +1,9 @@
 -- Lists made from a table place by place.
-use Rattle.std.proofs.Common.{◌≡◌, ℕ, zero, suc, ◌<◌, Bool, true, false, ◌&&◌, List, [], ◌∷◌, map, length, get_or, replicate, sym, refl, ap, ◌∙◌, arith}
+use Rattle.std.proofs.Common.{◌≡◌, ℕ, zero, suc, ◌<◌, Bool, true, ◌&&◌, List, [], ◌∷◌, map, length, get_or, replicate, refl, ap, ◌∙◌, arith}
 use Rattle.std.proofs.lemmas.List.{length-map, get_or-map}
 use Rattle.chooser.specs.declared.entry.Entry.{Entry}
 use Rattle.chooser.specs.declared.entry.Line.{Line}
-use Rattle.model.specs.Lists.{in_line, in_list, entry, offer, stayed}
+use Rattle.model.specs.Lists.{in_line, entry, offer, stayed}
 use Rattle.model.specs.Session.{Session}
 use Rattle.model.specs.Table.{Table}
 use Rattle.session.specs.Seen.{seen}

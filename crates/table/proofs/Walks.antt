@@ -1,6 +1,6 @@
 -- Walks over the rows: a search from the lowest place on, and a sum.
-use Rattle.std.proofs.Common.{◌≡◌, ℕ, zero, suc, ◌+◌, ◌<◌, Bool, true, false, cond, List, [], ◌∷◌, length, Some, None, Option, sym, refl, ap, ◌∙◌, arith}
-use Rattle.model.specs.Session.{Session, vacant}
+use Rattle.std.proofs.Common.{◌≡◌, ℕ, zero, suc, ◌<◌, Bool, true, false, cond, [], ◌∷◌, length, Some, None, refl, ap, ◌∙◌, arith}
+use Rattle.model.specs.Session.{Session}
 use Rattle.model.specs.Table.{Table, at, first, next}
 
 -- the first place that passes a test is the one before which none does

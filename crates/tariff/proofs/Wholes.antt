@@ -1,12 +1,12 @@
 -- A table of the tariff is tested once as a whole, and the test turned into the rule at each entry.
-use Rattle.std.proofs.Common.{◌≡◌, ℕ, zero, suc, ◌+◌, ◌*◌, ◌/◌, ◌%◌, ◌<◌, ◌≤◌, Bool, true, false, not, ◌&&◌, ◌||◌, eqb, ltb, ◌⊎◌, List, [], ◌∷◌, length, get_or, is_ok, Ok, Err, Decides, Result, sym, refl, ap, ◌∙◌, subst, inl, inr, ⊎_elim, mul_comm, mul-le-mul, mul-zero, zero-mul, mul-div_cancel, add-one, arith, rules, MatchResult}
-use native.Mathlib.Nat.{mul-div_cancel', dvd_of_mod-eq-zero, mul-mod_right, mul-mod_left}
+use Rattle.std.proofs.Common.{◌≡◌, ℕ, zero, suc, ◌+◌, ◌*◌, ◌/◌, ◌%◌, ◌<◌, ◌≤◌, Bool, true, false, not, ◌&&◌, ◌||◌, eqb, ltb, List, [], ◌∷◌, length, get_or, is_ok, Ok, Err, Result, sym, ap, ◌∙◌, subst, ⊎_elim, mul_comm, mul-le-mul, zero-mul, mul-div_cancel, add-one, arith, MatchResult}
+use native.Mathlib.Nat.{mul-div_cancel', dvd_of_mod-eq-zero, mul-mod_right}
 use Rattle.std.specs.Ordering.{nat_cmp}
 use Rattle.std.specs.List.Sorted.{IsBinarySearchResult}
 use Rattle.std.proofs.lemmas.List.{get_or_default}
 use Rattle.std.proofs.lemmas.List.Sorted.{searched, IsNonDecreasingBy-from_all_adjacent}
-use Rattle.std.specs.List.{ContainsAt, HoldsAt}
-use Rattle.std.proofs.lemmas.Bool.{and_parts, and_from, or_cases, or_left, or_right, eqb-true, eq-eqb, lt-ltb, ltb-true, cases_Bool, cases_lt, not-true, both_ways}
+use Rattle.std.specs.List.{ContainsAt}
+use Rattle.std.proofs.lemmas.Bool.{and_parts, and_from, or_cases, eqb-true, eq-eqb, lt-ltb, ltb-true, cases_Bool, cases_lt, not-true, both_ways}
 use Rattle.tariff.specs.Tariff.{in_tariff, Whole}
 
 -- the test: each entry is larger than the one before it, and divides

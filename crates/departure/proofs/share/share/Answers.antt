@@ -1,9 +1,7 @@
-use Rattle.std.proofs.Common.{◌≡◌, ◌+◌, ◌<◌, length, take, drop, set, sym, refl, ap, ◌∙◌, arith}
-use Rattle.std.proofs.lemmas.List.{length-set, drop-set-lt}
-use Rattle.model.specs.Departures.{active_rate, share}
-use Rattle.model.specs.Session.{Session, vacant}
-use Rattle.model.specs.Table.{Table, total}
-use Rattle.session.specs.Seen.{seen}
+use Rattle.std.proofs.Common.{ap, ◌∙◌, arith}
+use Rattle.std.proofs.lemmas.List.{length-set}
+use Rattle.model.specs.Departures.{active_rate}
+use Rattle.model.specs.Table.{total}
 use Rattle.table.specs.Places.{table_of}
 use Rattle.table.proofs.Tables.{length_table, left_more}
 use Rattle.departure.specs.Owing.{owing}

@@ -1,7 +1,6 @@
-use Rattle.std.proofs.Common.{◌≡◌, ◌+◌, drop, arith}
+use Rattle.std.proofs.Common.{arith}
 use Rattle.model.specs.Departures.{active_rate}
 use Rattle.model.specs.Table.{total}
-use Rattle.table.specs.Places.{table_of}
 use Rattle.table.proofs.Tables.{left_more, left_all}
 use Rattle.table.proofs.departs.active_rates.Goals as goal
 

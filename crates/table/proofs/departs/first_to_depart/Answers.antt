@@ -1,4 +1,4 @@
-use Rattle.std.proofs.Common.{◌≡◌, sym, ap, ◌∙◌, arith, below_more}
+use Rattle.std.proofs.Common.{sym, ap, ◌∙◌, arith, below_more}
 use Rattle.model.specs.Departures.{departing}
 use Rattle.table.specs.Places.{table_of}
 use Rattle.table.proofs.Tables.{length_table, at_table}

@@ -1,4 +1,4 @@
-use Rattle.std.proofs.Common.{◌≡◌, arith}
+use Rattle.std.proofs.Common.{arith}
 use Rattle.model.specs.Table.{greatest}
 use Rattle.table.proofs.Tables.{left_more, left_all}
 use Rattle.table.proofs.times.latest_time.Goals as goal
