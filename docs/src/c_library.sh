@@ -4,14 +4,14 @@
 #
 #   docs/src/c_library.sh [--built]
 #
-# --built   takes target/staticlib/libbase_unit.a as it is
+# --built   takes crates/base_unit/out/libbase_unit.a as it is
 #
 # Its last line is 'c_library.sh: ok'. Exit status: 0 all as it should be, 1 something differs, 2 it couldn't be run.
 
 set -u
 here=$(cd "$(dirname "$0")" && pwd) || exit 2
 cd "$here/../.." || exit 2
-library=target/staticlib/libbase_unit.a
+library=crates/base_unit/out/libbase_unit.a
 header=docs/src/dalgweniz.h
 dir=$(mktemp -d) || exit 2
 trap 'rm -rf "$dir"' EXIT
@@ -23,8 +23,8 @@ fail() {
 }
 
 if [ "${1:-}" != --built ]; then
-    rt staticlib base_unit > "$dir/rt" 2>&1 || { tail -20 "$dir/rt"; exit 2; }
-    tail -2 "$dir/rt" | head -1
+    (cd crates/base_unit && rt lib) > "$dir/rt" 2>&1 || { tail -20 "$dir/rt"; exit 2; }
+    grep "^logic=" "$dir/rt" | tail -1
 fi
 
 # ---- the header against the source: each function and each out-struct, type by type and in order, and each refusal's number

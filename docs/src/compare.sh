@@ -6,9 +6,9 @@
 #
 #   docs/src/compare.sh [options]
 #
-#   --cellplay PATH  the program (target/bin/cellplay); none: lines from the library only
-#   --library PATH   the C library (target/staticlib/libbase_unit.a); none: no states
-#   --build          first make both: rt check cellplay, rt staticlib base_unit
+#   --cellplay PATH  the program (crates/cellplay/out/cellplay); none: lines from the library only
+#   --library PATH   the C library (crates/base_unit/out/libbase_unit.a); none: no states
+#   --build          first make both, in their folders: rt run, rt lib
 #   --records N      how many to play, at least (20,000,000)
 #   --every N        a state after every Nth record of the long recordings (10)
 #   --seed S         the first seed (1); each round of profiles takes the next
@@ -22,8 +22,8 @@
 
 here=$(cd "$(dirname "$0")" && pwd) || exit 2
 root=$(cd "$here/../.." && pwd) || exit 2
-cellplay=$root/target/bin/cellplay
-library=$root/target/staticlib/libbase_unit.a
+cellplay=$root/crates/cellplay/out/cellplay
+library=$root/crates/base_unit/out/libbase_unit.a
 reference=$here/reference.rs
 wanted=20000000
 every=10
@@ -60,7 +60,7 @@ while [ $# -gt 0 ]; do
 done
 
 if [ $build = yes ]; then
-    (cd "$root" && rt check cellplay && rt staticlib base_unit) || stop "not built"
+    (cd "$root/crates/cellplay" && rt run < /dev/null) && (cd "$root/crates/base_unit" && rt lib) || stop "not built"
 fi
 case $cellplay in
 none | self) ;;
