@@ -4,4 +4,6 @@ pub mod Steps
 pub mod Telling
 pub mod Turning
 pub mod Asking
+pub mod Joining
+pub mod Meant
 pub mod Passing

@@ -1,18 +1,16 @@
 -- Whose books are in order can make an offer of anybody who is in a list.
-use Rattle.std.proofs.Common.{◌≡◌, ℕ, ◌*◌, ◌<◌, ◌≤◌, Bool, true, false, not, ◌&&◌, ◌||◌, ◌⊎◌, List, length, get_or, nat_abs, sym, refl, ap, ◌∙◌, subst, inl, inr, arith}
+use Rattle.std.proofs.Common.{◌≡◌, ℕ, ◌≤◌, Bool, true, false, not, ◌&&◌, ◌⊎◌, length, get_or, nat_abs, sym, refl, ap, ◌∙◌, inl, inr, arith}
 use Rattle.std.proofs.lemmas.Bool.{cases_Bool, both_ways, and_parts}
 use Rattle.chooser.proofs.Sound.{offered_sound, sound_from}
-use Rattle.chooser.specs.Offers.{idle, lag_bound, sound, sound_entry}
+use Rattle.chooser.specs.Offers.{idle, lag_bound, sound_entry}
 use Rattle.model.proofs.Books.{ordered_of, lag_low}
 use Rattle.model.proofs.Tables.{at_is}
 use Rattle.model.specs.Cell.{Cell}
-use Rattle.model.specs.Limits.{places, longest}
 use Rattle.model.specs.Lists.{Line, Credit, Extra, in_line, entry, stayed}
 use Rattle.model.specs.Session.{Session, vacant, waiting, able, lags}
 use Rattle.model.specs.Sound.{Orderly, Books}
 use Rattle.model.specs.Table.{Table, at}
 use Rattle.table.proofs.Offering.{length_stayed, getD_stayed}
-use Rattle.tariff.specs.Tariff.{link}
 use Rattle.cell.specs.Found.{Offerable}
 
 -- nobody waits at a place that is not open

@@ -12,7 +12,7 @@ use Rattle.model.specs.Limits.{most_turns}
 use Rattle.model.specs.Meaning.{Meaning, Lawful}
 use Rattle.model.specs.Sound.{Midway, Sound, InOrder}
 use Rattle.model.specs.Table.{Table, at, change, is_none, none_active, chosen}
-use Rattle.model.specs.Turn.{Way, by_right, by_allowance, by_credit, unclaimed, by_extra, idle, sender, length_of, answer_of, sends, charged, hands_on, takes_up, turned}
+use Rattle.model.specs.Turn.{Way, by_right, by_allowance, by_credit, unclaimed, by_extra, idle, sender, length_of, answer_of, hands_on, takes_up, turned}
 use Rattle.model.proofs.Books.{ordered_of, step_sound}
 use Rattle.model.proofs.Chosen.{chosen_next, chosen_some}
 use Rattle.model.proofs.Tables.{change_same}

@@ -1,5 +1,5 @@
 -- Tellings: what a chooser of the code makes of an offer, and one place more of those who joined a list.
-use Rattle.std.proofs.Common.{◌≡◌, ℕ, suc, ◌+◌, ◌<◌, ◌≤◌, Bool, true, false, cond, not, ◌&&◌, List, [], ◌∷◌, length, get_or, drop, sym, refl, ap, ◌∙◌, add-one, arith}
+use Rattle.std.proofs.Common.{◌≡◌, ℕ, ◌+◌, ◌<◌, ◌≤◌, Bool, true, false, cond, not, ◌&&◌, List, ◌∷◌, length, get_or, drop, sym, refl, ap, ◌∙◌, add-one, arith}
 use mathlib.Core.Bool.{Bool-set}
 use Rattle.std.proofs.lemmas.List.{drop_more, drop_all}
 use Rattle.std.proofs.lemmas.Bool.{both_ways}
@@ -9,7 +9,6 @@ use Rattle.model.specs.Cell.{told}
 use Rattle.model.specs.Lists.{Entry, Line, in_line}
 use Rattle.model.specs.Meaning.{Meaning, if_sound}
 use Rattle.model.specs.Session.{Session}
-use Rattle.model.specs.Table.{Table}
 use Rattle.session.specs.Seen.{seen}
 use Rattle.session.specs.declared.row.Row.{Row}
 use Rattle.table.proofs.Tables.{length_table, getD_table}

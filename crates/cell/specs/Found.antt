@@ -19,6 +19,10 @@ mark_left before u mark = mark_from (least u) before.idle (greatest u) mark
 abbrev pub joins_left : {C : Type 0} → Meaning C → Before → Table → C → C
 joins_left M before u c = joins M Extra before.extra u (joins M Credit before.credit u c)
 
+-- what it is once it has heard of the joins of one list, where the call leaves session s at a place of table t and changes no other
+abbrev pub joins_by : {C : Type 0} → Meaning C → Line → Table → ℕ → Session → C → C
+joins_by M l t place s c = joins M l (in_list l t) (change t place (λ _. s)) c
+
 -- whoever stayed in a list can be offered
 abbrev pub Offerable : Table → Type 0
 Offerable t = (l : Line) (before : List Bool) → length before ≡ places → sound (stayed l before t) ≡ true

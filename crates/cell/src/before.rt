@@ -5,7 +5,7 @@ ghost use Rattle.table.specs.Places.{table_of};
 
 use chooser::Line;
 use session::Row;
-use table::{least_time, members};
+use table::{members, nobody_active};
 
 // Who stood in which list, and whether nobody was active.
 #[derive(Clone, Copy)]
@@ -21,6 +21,6 @@ pub(crate) fn look(rows: &[Row; 64]) -> Before
     Before {
         credit: members(rows, Line::Credit),
         extra: members(rows, Line::Extra),
-        idle: least_time(rows).is_none(),
+        idle: nobody_active(rows),
     }
 }

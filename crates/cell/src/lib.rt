@@ -6,6 +6,7 @@ mod before;
 mod calls;
 mod decide;
 mod leave;
+mod offers;
 mod plans;
 mod put;
 mod send;

@@ -9,7 +9,7 @@ ghost use Rattle.table.specs.Places.{table_of};
 use super::before::Before;
 use chooser::{Chooser, Line, Offer};
 use session::Row;
-use table::{mark_after, stayed};
+use table::{anybody_joined, mark_after, stayed};
 
 // The offer of those who stood in a list before and still do.
 pub(crate) fn offer(rows: &[Row; 64], line: Line, before: &[bool; 64]) -> Offer
@@ -20,8 +20,20 @@ pub(crate) fn offer(rows: &[Row; 64], line: Line, before: &[bool; 64]) -> Offer
     Offer { entries }
 }
 
-// Tells of each place that is in a list now and was not, in ascending place.
+// Tells who joined a list. In most calls nobody does, and then no offer is made.
 pub(crate) fn tell<C: Chooser>(chooser: &mut C, line: Line, rows: &[Row; 64], before: &[bool; 64])
+    requires { Offerable (table_of rows.now) }
+    ensures { chooser.new ≡
+        joins (meaning C.pick C.after_served C.after_joined C.after_cleared) line before.now
+        (table_of rows.now) chooser.old }
+{
+    if anybody_joined(rows, line, before) {
+        tell_each(chooser, line, rows, before);
+    }
+}
+
+// Tells of each place that is in a list now and was not, in ascending place.
+fn tell_each<C: Chooser>(chooser: &mut C, line: Line, rows: &[Row; 64], before: &[bool; 64])
     requires { Offerable (table_of rows.now) }
     ensures { chooser.new ≡
         joins (meaning C.pick C.after_served C.after_joined C.after_cleared) line before.now

@@ -1,4 +1,4 @@
-use Rattle.std.proofs.Common.{◌≡◌, sym, ap, ◌∙◌}
+use Rattle.std.proofs.Common.{◌≡◌, ap, ◌∙◌}
 use Rattle.model.proofs.Meant.{lawful}
 use Rattle.model.specs.Calls.{heard}
 use Rattle.model.specs.Cell.{joins, mark_from, mark_after, all_joins}

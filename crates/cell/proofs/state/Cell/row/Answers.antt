@@ -1,4 +1,4 @@
-use Rattle.std.proofs.Common.{◌≡◌, sym, ap, ◌∙◌, arith}
+use Rattle.std.proofs.Common.{sym, ap, ◌∙◌, arith}
 use Rattle.model.specs.Table.{at}
 use Rattle.table.proofs.Tables.{at_table}
 use Rattle.table.specs.Places.{table_of}

@@ -1,11 +1,11 @@
-use Rattle.std.proofs.Common.{◌≡◌, Err, sym, ap, ◌∙◌}
+use Rattle.std.proofs.Common.{Err, sym, ap, ◌∙◌}
 use Rattle.std.proofs.lemmas.Result.{err_from_is_err_and}
 use Rattle.model.proofs.Meant.{lawful}
 use Rattle.model.proofs.Order.{books}
 use Rattle.model.specs.Calls.{Outcome, turn, refusal}
 use Rattle.model.specs.Meaning.{Meaning, Lawful, meaning}
 use Rattle.table.specs.Places.{table_of}
-use Rattle.cell.specs.Turns.{Accepted, turned_as}
+use Rattle.cell.specs.Turns.{turned_as}
 use Rattle.cell.specs.View.{view}
 use Rattle.cell.proofs.Passing.{turn_accepted, answer_is, cell_is, in_order}
 use Rattle.cell.proofs.Steps.{not_planned, refuses}

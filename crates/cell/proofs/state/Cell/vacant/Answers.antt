@@ -1,7 +1,6 @@
-use Rattle.std.proofs.Common.{◌≡◌, Ok, sym, refl, ap, ◌∙◌, subst, arith}
+use Rattle.std.proofs.Common.{Ok, sym, ap, ◌∙◌, subst, arith}
 use Rattle.std.proofs.lemmas.Bool.{le-leb, cond-true}
 use Rattle.model.proofs.Books.{new_sound}
-use Rattle.model.specs.Cell.{Cell}
 use Rattle.model.specs.Sound.{InOrder}
 use Rattle.model.specs.Table.{Table}
 use Rattle.cell.proofs.Rows.{table_vacant}

@@ -2,7 +2,7 @@ use Rattle.std.proofs.Common.{◌≡◌, drop}
 use Rattle.model.specs.Cell.{told}
 use Rattle.model.specs.Meaning.{meaning}
 use Rattle.table.specs.Places.{table_of}
-use Rattle.cell.proofs.settle.tell.Given as goal
+use Rattle.cell.proofs.settle.tell_each.Given as goal
 
 abbrev pub invariant-loop-i : goal.invariant-loop-i
 invariant-loop-i g l =
