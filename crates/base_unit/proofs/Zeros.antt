@@ -1,11 +1,10 @@
 -- The cell of zeros.
-use Rattle.std.proofs.Common.{◌≡◌, ℕ, zero, suc, false, List, [], ◌∷◌, length, replicate, pos, sym, refl, ap, subst, lit<, lit≤}
+use Rattle.std.proofs.Common.{◌≡◌, ℕ, zero, suc, false, length, replicate, pos, sym, refl, ap, subst, lit<, lit≤}
 use Rattle.std.specs.List.{AllByRecursion}
 use Rattle.cell.proofs.Rows.{table_vacant}
 use Rattle.least_served.specs.declared.counts.LeastServed.{LeastServed}
 use Rattle.least_served.specs.Served.{unserved}
 use Rattle.model.proofs.Books.{new_sound}
-use Rattle.model.specs.Calls.{new}
 use Rattle.model.specs.Cell.{Cell}
 use Rattle.model.specs.Session.{vacant}
 use Rattle.model.specs.Sound.{InOrder}
@@ -13,8 +12,7 @@ use Rattle.model.specs.Table.{Table}
 use Rattle.queue.specs.Ring.{held, no_frame}
 use Rattle.session.specs.Seen.{seen}
 use Rattle.session.specs.declared.row.Row.{Row}
-use Rattle.table.specs.Places.{table_of}
-use Rattle.base_unit.specs.Zero.{ZeroRow, Zero, ZeroIsNew}
+use Rattle.base_unit.specs.Zero.{ZeroRow, ZeroIsNew}
 
 zero_row : Row
 zero_row = record {

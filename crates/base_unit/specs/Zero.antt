@@ -1,5 +1,5 @@
 -- Memory that is all zero is a cell: the new one with keep 0.
-use Rattle.std.specs.Prelude.{◌≡◌, false, List, length, replicate, pos}
+use Rattle.std.specs.Prelude.{◌≡◌, false, length, replicate, pos}
 use Rattle.std.specs.List.{AllByRecursion}
 use Rattle.least_served.specs.Served.{unserved}
 use Rattle.model.specs.Calls.{new}

@@ -1,5 +1,5 @@
 -- Every worked figure, in one statement about the definitions that the contracts cite.
-use Rattle.std.specs.Prelude.{◌≡◌, ℕ, List, [], ◌∷◌, take, replicate, pos, Some}
+use Rattle.std.specs.Prelude.{◌≡◌, List, ◌∷◌, take, replicate, pos, Some}
 use Rattle.chooser.specs.declared.entry.Entry.{Entry}
 use Rattle.chooser.specs.Offers.{idle, offered}
 use Rattle.largest_debt.specs.Largest.{debt_at, largest_debt}

@@ -1,5 +1,5 @@
 -- The worked run: keep 2, least served, two sessions. Place 0 fades while place 1 sends, and is paid back.
-use Rattle.std.specs.Prelude.{ℕ, true, false, List, [], ◌∷◌, Some, None, Ok, Err, Result}
+use Rattle.std.specs.Prelude.{ℕ, true, false, List, [], ◌∷◌, Some, Ok, Err, Result}
 use Rattle.answer.specs.declared.refusal.Refusal.{Refusal}
 use Rattle.answer.specs.declared.refusal.Refusal.TheVariants.{NoneActive}
 use Rattle.answer.specs.declared.turn.Answer.{Answer}

@@ -1,5 +1,5 @@
 -- Where the twelfth call of the worked run leaves the virtual times and the allowances.
-use Rattle.std.specs.Prelude.{◌≡◌, ℕ, take, pos}
+use Rattle.std.specs.Prelude.{◌≡◌, take, pos}
 use Rattle.least_served.specs.declared.counts.LeastServed.{LeastServed}
 use Rattle.model.specs.Cell.{Cell}
 use Rattle.model.specs.Table.{at}

@@ -2,7 +2,7 @@
 #![tactic(auto)]
 
 ghost use Rattle.std.specs.Prelude.{◌≡◌};
-ghost use Rattle.least_served.specs.Served.{least_served, PicksLeastServed, stopped, after_served, after_joined, after_cleared};
+ghost use Rattle.least_served.specs.Served.{least_served, PicksLeastServed, stopped, after_served as counts_after_served, after_joined as counts_after_joined, after_cleared as counts_after_cleared};
 ghost use Rattle.least_served.specs.Laws.{least_is_offered};
 
 use chooser::{Chooser, Line, Offer};
@@ -15,11 +15,11 @@ pub use counts::LeastServed;
 impl Chooser for LeastServed {
     ghost pick = { λ c line o. least_served c line o.entries };
 
-    ghost after_served = { λ c line place length price. after_served stopped c line place length price };
+    ghost after_served = { λ c line place length price. counts_after_served stopped c line place length price };
 
-    ghost after_joined = { λ c line place o. after_joined c line place o.entries };
+    ghost after_joined = { λ c line place o. counts_after_joined c line place o.entries };
 
-    ghost after_cleared = { λ c place. after_cleared c place };
+    ghost after_cleared = { λ c place. counts_after_cleared c place };
 
     ghost picks = { λ c line o. least_is_offered c line o.entries o.ok };
 

@@ -15,7 +15,7 @@ pub record Cell (C : Type 0) : Type 0 where
 -- ---- the mark
 
 abbrev pub mark_from : Option ℕ → Bool → ℕ → ℕ → ℕ
-mark_from (Some v) had-none latest mark = v
+mark_from (Some v) had_none latest mark = v
 mark_from None true latest mark = mark
 mark_from None false latest mark = latest
 
