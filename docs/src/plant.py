@@ -100,18 +100,19 @@ def reaches():
 
 def texts(crate):
     """The files of a crate that a check, its tests or its run read."""
-    return [f for f in sorted((ROOT / "crates" / crate).rglob("*")) if f.is_file() and not {"out", "must-fail"} & set(f.parts)]
+    folder = ROOT / "crates" / crate
+    return [f for f in sorted(folder.rglob("*")) if f.is_file() and f.relative_to(folder).parts[0] not in ("out", "must-fail")]
 
 
 class Book:
     """Verdicts of earlier runs, each by the bug and the texts of its crate and of those below and above it."""
 
-    def __init__(self, path, below, above, fresh):
+    def __init__(self, path, below, above):
         self.path, self.lock = path, threading.Lock()
         self.kit = subprocess.run(["rt", "version"], capture_output=True, text=True).stdout
         self.near = {c: {c, *below[c], *above[c]} for c in below}
         self.of = {c: "".join(f"{f.relative_to(ROOT)} {f.read_bytes().hex()}\n" for f in texts(c)) for c in below}
-        self.seen = json.loads(path.read_text()) if path.exists() and not fresh else {}
+        self.seen = json.loads(path.read_text()) if path.exists() else {}
 
     def key(self, bug):
         all_texts = "".join(self.of[c] for c in sorted(self.near[bug.crate]))
@@ -134,7 +135,8 @@ def judged(crate, said):
     if "logic=not-proved" in said and (facts or not told):
         fn = UNPROVED.search(said)
         by_hand = facts and all(re.match(r"(note: )?(\./)?proofs/", line) for line in facts)
-        return "contract", f"`{fn.group(1) if fn else '?'}`" + (" (its proof by hand)" if by_hand else "")
+        more = " (its proof by hand)" if by_hand else ""
+        return "contract", f"`{fn.group(1) if fn else '?'}`{more}" + (" (names are gone too)" if len(facts) < len(told) else "")
     failed = re.search(r"^test (\S+) \.\.\. FAILED", said, re.M)
     if failed:
         return "test", f"`{failed.group(1)}` of {crate}"
@@ -243,8 +245,8 @@ def main():
     log = args.work / "log"
     log.mkdir(parents=True, exist_ok=True)
     below, above = reaches()
-    book = Book(args.work / "verdicts.json", below, above, args.fresh)
-    todo = [bug for bug in bugs if not bug.verdict and not book.find(bug)]
+    book = Book(args.work / "verdicts.json", below, above)
+    todo = [bug for bug in bugs if not bug.verdict and (args.fresh or not book.find(bug))]
     workers = [Worker(args.work / str(n + 1), above, log) for n in range(min(args.workers, len(todo)))]
     plant_all(todo, workers, book)
     for worker in workers:
