@@ -1,33 +1,37 @@
 #!/usr/bin/env python3
-"""Plants bugs in the code, one at a time, and says what refuses each. docs/BUGS.md has what came of it.
+"""Plants bugs in the code, one at a time, and says what refuses each.
 
     python3 docs/src/plant.py                    every bug of docs/src/bugs, two workers
     python3 docs/src/plant.py -w 1 session       the bugs of a crate, one worker
     python3 docs/src/plant.py -l LABEL --fresh   one bug, whatever an earlier run said
 
-A bug takes 10 to 20 seconds, in crate cell up to a minute, and longer where it survives its own crate: about 40
-minutes for all with two workers. Each worker has a copy of the repository and a proof cache under --work; a
-verdict is taken over from an earlier run while the bug and every text that it rests on are the same. What a
-check printed is in WORK/log.
+A bug takes 10 to 60 seconds, and minutes where it survives its own crate. Each worker has a copy of the repository
+under --work while it runs; its checks begin with what earlier checks on this machine kept. A verdict is taken over
+from an earlier run while the bug and every text that it can rest on are the same. What was printed is in WORK/log.
 """
 import argparse
 import hashlib
 import json
-import os
 import re
 import shutil
 import subprocess
 import sys
 import tempfile
 import threading
-from collections import Counter, deque
+from collections import Counter
+from concurrent.futures import ThreadPoolExecutor
 from dataclasses import dataclass, field
 from pathlib import Path
+from queue import SimpleQueue
 
 ROOT = Path(__file__).resolve().parents[2]
 VERDICTS = ["contract", "test", "not at all", "unfit"]
-# What a check says where a hand-written proof does not fit the code's shape any more: no fact was found wrong.
-UNFIT = re.compile(r"has no [`«]?[\w·-]+|can be named from here|is not in scope|no such name|unknown name|is no need of")
+# What a check says of a fact that it could not prove, or of a text that it could not read.
+TOLD = re.compile(r"note: \S+:\d+:\d+: |\S+:\d+:\d+: error")
+# The second kind: a proof by hand or an import names what is gone, so no fact was found wrong.
+GONE = re.compile(r"has no (field )?[`«]|can be named from here|is not in scope|no such name|unknown name|is no need of|was not admitted")
+# Of a function that is itself not proved, and does not only wait for another.
+UNPROVED = re.compile(r"^(?:fn|struct|impl) (\S+): (?:not proved|no proof)(?!.*(?:it calls|it passes|it waits|a call of))", re.M)
 
 
 @dataclass
@@ -68,50 +72,6 @@ def read_bugs():
     return bugs
 
 
-def reaches():
-    """For each crate, those that it depends on and those that depend on it, directly or not."""
-    deps = {}
-    for line in (ROOT / "crates.txt").read_text().splitlines():
-        name, colon, rest = line.split("#")[0].partition(":")
-        if colon:
-            deps[name.strip()] = set(rest.split())
-    below = {}
-    for name in deps:
-        below[name], todo = set(), set(deps[name])
-        while todo:
-            below[name] |= todo
-            todo = set().union(*(deps[d] for d in todo)) - below[name]
-    return below, {name: [d for d in deps if name in below[d]] for name in deps}
-
-
-def digest(text):
-    return hashlib.sha256(text.encode()).hexdigest()
-
-class Book:
-    """Verdicts of earlier runs, by the texts that they rest on."""
-
-    def __init__(self, path, below, above, fresh):
-        self.path, self.below, self.above, self.lock = path, below, above, threading.Lock()
-        self.kit = subprocess.run(["rt", "version"], capture_output=True, text=True).stdout
-        self.of = {c: digest("".join(f"{f}{f.read_bytes().hex()}" for f in sorted((ROOT / "crates" / c).rglob("*"))
-                                     if f.is_file() and f.suffix != ".edit")) for c in below}
-        self.seen = json.loads(path.read_text()) if path.exists() and not fresh else {}
-
-    def keys(self, bug):
-        near = [bug.crate, *sorted(self.below[bug.crate])]
-        return [digest(self.kit + repr((bug.crate, bug.file, bug.edits)) + "".join(self.of[c] for c in crates))
-                for crates in (near, near + self.above[bug.crate])]
-
-    def find(self, bug):
-        bug.verdict, bug.where = next((self.seen[k] for k in self.keys(bug) if k in self.seen), ("", ""))
-        return bug.verdict
-
-    def add(self, bug, in_its_crate):
-        with self.lock:
-            self.seen[self.keys(bug)[0 if in_its_crate else 1]] = [bug.verdict, bug.where]
-            self.path.write_text(json.dumps(self.seen, indent=0))
-
-
 def edited(text, bug):
     for old, new in bug.edits:
         old, new = "\n".join(old), "\n".join(new)
@@ -121,85 +81,141 @@ def edited(text, bug):
     return text
 
 
-def judged(said):
-    """What refused the bug, and where, by what a failed check printed."""
-    unproved = re.search(r"^rt: (\w+) NOT PROVED", said, re.M)
-    if "logic=not-proved" in said:
-        first = re.search(r"^.*(: error|it is not proved|no proof: (?!it calls)).*$", said, re.M)
-        if first and UNFIT.search(first.group()):
-            return "unfit", first.group()[:300]
-        fn = re.search(r"^(?:fn|struct|impl) (\S+): (?!proved|no proof: it calls|not proved; it waits)", said, re.M)
-        by_hand = first and "/proofs/" in first.group().split(": ")[0]
-        return "contract", f"`{fn.group(1) if fn else '?'}`" + (" (its proof by hand)" if by_hand else "")
+def reaches():
+    """For each crate, those that it depends on and those that depend on it, directly or not, lowest first."""
+    deps = {}
+    for line in (ROOT / "crates.txt").read_text().splitlines():
+        head, colon, rest = line.split("#")[0].partition(":")
+        if colon:
+            deps[head.split()[0]] = rest.split()
+    below = {}
+    for name in deps:
+        below[name], todo = set(), set(deps[name])
+        while todo:
+            below[name] |= todo
+            todo = {d for t in todo for d in deps[t]} - below[name]
+    order = sorted(deps, key=lambda name: len(below[name]))
+    return below, {name: [d for d in order if name in below[d]] for name in deps}
+
+
+def texts(crate):
+    """The files of a crate that a check, its tests or its run read."""
+    folder = ROOT / "crates" / crate
+    return [f for f in sorted(folder.rglob("*")) if f.is_file() and f.relative_to(folder).parts[0] not in ("out", "must-fail")]
+
+
+class Book:
+    """Verdicts of earlier runs, each by the bug and the texts of its crate and of those below and above it."""
+
+    def __init__(self, path, below, above):
+        self.path, self.lock = path, threading.Lock()
+        self.kit = subprocess.run(["rt", "version"], capture_output=True, text=True).stdout
+        self.near = {c: {c, *below[c], *above[c]} for c in below}
+        self.of = {c: "".join(f"{f.relative_to(ROOT)} {f.read_bytes().hex()}\n" for f in texts(c)) for c in below}
+        self.seen = json.loads(path.read_text()) if path.exists() else {}
+
+    def key(self, bug):
+        all_texts = "".join(self.of[c] for c in sorted(self.near[bug.crate]))
+        return hashlib.sha256(f"{self.kit} {bug.crate} {bug.file} {bug.edits} {all_texts}".encode()).hexdigest()
+
+    def find(self, bug):
+        bug.verdict, bug.where = self.seen.get(self.key(bug), ("", ""))
+        return bug.verdict
+
+    def add(self, bug):
+        with self.lock:
+            self.seen[self.key(bug)] = [bug.verdict, bug.where]
+            self.path.write_text(json.dumps(self.seen, indent=0))
+
+
+def judged(crate, said):
+    """What refused the bug, and where, by what a failed check or test of a crate printed."""
+    told = [line for line in said.splitlines() if TOLD.match(line)]
+    facts = [line for line in told if not GONE.search(line)]
+    if "logic=not-proved" in said and (facts or not told):
+        fn = UNPROVED.search(said)
+        by_hand = facts and all(re.match(r"(note: )?(\./)?proofs/", line) for line in facts)
+        more = " (its proof by hand)" if by_hand else ""
+        return "contract", f"`{fn.group(1) if fn else '?'}`{more}" + (" (names are gone too)" if len(facts) < len(told) else "")
     failed = re.search(r"^test (\S+) \.\.\. FAILED", said, re.M)
     if failed:
-        crate = re.search(r"^rt: (\w+) proved, and its tests FAILED", said, re.M)
-        return "test", f"`{failed.group(1)}` of {crate.group(1) if crate else '?'}"
-    run = re.search(r"^rt: (\w+): (what the program wrote|the program ended)", said, re.M)
-    if run:
-        return "test", f"{'stdout' if 'wrote' in run.group(2) else 'end'} of {run.group(1)}"
+        return "test", f"`{failed.group(1)}` of {crate}"
     error = re.search(r"^.*error.*$", said, re.M)
-    return "unfit", (error.group() if error else said[-300:])[:300] + (f" ({unproved.group(1)})" if unproved else "")
+    return "unfit", (told[0] if told else error.group() if error else said[-300:])[:300]
 
 
 class Worker:
     """A copy of the repository in which bugs are planted."""
 
-    def __init__(self, home, book):
-        self.home, self.book = home, book
-        self.kept = home.with_name(home.name + ".kept")
-        shutil.rmtree(home / "crates", ignore_errors=True)
-        shutil.copytree(ROOT, home, dirs_exist_ok=True, ignore=shutil.ignore_patterns("target", ".git"))
-        if not (home / "target").exists() and (ROOT / "target").exists():
-            shutil.copytree(ROOT / "target", home / "target")
+    def __init__(self, home, above, log):
+        self.home, self.above, self.log, self.sound = home, above, log, set()
+        shutil.rmtree(home, ignore_errors=True)
+        shutil.copytree(ROOT / "crates", home / "crates", ignore=shutil.ignore_patterns("out"))
+        for name in ["crates.txt", "HANDLES"]:
+            shutil.copy2(ROOT / name, home / name)
 
-    def rt(self, *crates):
-        env = dict(os.environ, RT_JOBS="1", RT_CUT="0")
-        run = subprocess.run(["rt", "check", *crates], cwd=self.home, env=env, stdout=subprocess.PIPE, stderr=subprocess.STDOUT)
-        return run.returncode, run.stdout.decode(errors="replace")
+    def rt(self, crate, *words, given=b""):
+        folder = self.home / "crates" / crate
+        return subprocess.run(["rt", *words], cwd=folder, input=given, stdout=subprocess.PIPE, stderr=subprocess.PIPE)
 
-    def ready(self, crates):
-        """The crates without a bug; what is proved of them is kept, and put back after each bug."""
-        status, said = self.rt(*crates)
-        if status:
-            sys.exit(f"without a bug the check fails in {self.home}:\n{said[-2000:]}")
-        shutil.rmtree(self.kept, ignore_errors=True)
-        for part in ["stamp", "rlib"]:
-            shutil.copytree(self.home / "target" / part, self.kept / part)
+    def proved(self, crate, *words):
+        """Whether a check or the tests pass, and what they print."""
+        done = self.rt(crate, *words)
+        return done.returncode == 0, (done.stdout + done.stderr).decode(errors="replace")
 
-    def put_back(self):
-        for stamp in (self.kept / "stamp").iterdir():
-            now = self.home / "target/stamp" / stamp.name
-            if now.exists() and now.read_text() == stamp.read_text():
-                continue
-            shutil.copy2(stamp, now)
-            rlib = self.kept / "rlib" / f"{stamp.name}.rlib"
-            if rlib.exists():
-                shutil.rmtree(self.home / "target/rlib" / rlib.name, ignore_errors=True)
-                shutil.copytree(rlib, self.home / "target/rlib" / rlib.name)
+    def ran(self, crate):
+        """Whether a program writes what its file stdout has, and what rt prints."""
+        folder = self.home / "crates" / crate
+        words = (folder / "args").read_text().splitlines() if (folder / "args").exists() else []
+        given = (folder / "stdin").read_bytes() if (folder / "stdin").exists() else b""
+        done = self.rt(crate, "run", *(["--", *words] if words else []), given=given)
+        wrote = done.returncode == 0 and done.stdout == (folder / "stdout").read_bytes()
+        return wrote, done.stderr.decode(errors="replace")
+
+    def refused(self, crate):
+        """What refuses a crate as it stands here, where, and what was printed; None if nothing does."""
+        folder = self.home / "crates" / crate
+        well, said = self.proved(crate, "check")
+        if well and any("#[test]" in f.read_text() for f in folder.glob("src/*.rt")):
+            well, said = self.proved(crate, "test")
+        if not well:
+            return *judged(crate, said), said
+        if (folder / "stdout").exists():
+            well, said = self.ran(crate)
+        return None if well else ("test", f"stdout of {crate}", said)
 
     def plant(self, bug):
+        """Tries the bug in its crate, and while it survives in those above. The file is put back after it."""
+        if bug.crate not in self.sound and not self.proved(bug.crate, "check")[0]:
+            bug.verdict, bug.where = "unfit", "the crate is not proved without it"
+            return
+        self.sound.add(bug.crate)
         path = self.home / "crates" / bug.crate / bug.file
         text = path.read_text()
         path.write_text(edited(text, bug))
-        status, said = self.rt(bug.crate)
-        in_its_crate, above = status != 0, self.book.above[bug.crate]
-        if status == 0 and above:
-            status, said = self.rt(*above)
-        bug.verdict, bug.where = judged(said) if status else ("not at all", "")
-        self.book.add(bug, in_its_crate)
-        (self.home.parent / "log").mkdir(exist_ok=True)
-        (self.home.parent / "log" / f"{bug.crate}.{bug.label}").write_text(said)
+        found = (self.refused(crate) for crate in [bug.crate, *self.above[bug.crate]])
+        bug.verdict, bug.where, said = next((it for it in found if it), ("not at all", "", ""))
         path.write_text(text)
-        self.put_back()
+        (self.log / f"{bug.crate}.{bug.label}").write_text(said)
 
 
-def work(worker, crates, todo):
-    worker.ready(crates)
-    while todo:
-        bug = todo.popleft()
-        worker.plant(bug)
-        print(f"{len(todo)} left; {bug.crate}/{bug.label}: {bug.verdict} {bug.where}", file=sys.stderr, flush=True)
+def plant_all(todo, workers, book):
+    free, left = SimpleQueue(), [len(todo)]
+    for worker in workers:
+        free.put(worker)
+
+    def plant(bug):
+        worker = free.get()
+        try:
+            worker.plant(bug)
+        finally:
+            free.put(worker)
+        book.add(bug)
+        left[0] -= 1
+        print(f"{left[0]} left; {bug.crate}/{bug.label}: {bug.verdict} {bug.where}", file=sys.stderr, flush=True)
+
+    with ThreadPoolExecutor(max(len(workers), 1)) as pool:
+        list(pool.map(plant, todo))
 
 
 def counts(bugs):
@@ -217,25 +233,24 @@ def main():
     parser.add_argument("-w", "--workers", type=int, default=2)
     parser.add_argument("--work", type=Path, default=Path(tempfile.gettempdir()) / "plant")
     parser.add_argument("--fresh", action="store_true", help="try every bug anew")
-    parser.add_argument("--list", action="store_true", help="only say which bugs there are")
+    parser.add_argument("--list", action="store_true", help="only say which bugs there are, and whose text does not stand once")
     args = parser.parse_args()
     bugs = [b for b in read_bugs() if (not args.crates or b.crate in args.crates) and (not args.label or b.label in args.label)]
     for bug in bugs:
         edited((ROOT / "crates" / bug.crate / bug.file).read_text(), bug)
         if args.list:
-            print(f"{bug.crate}/{bug.label} ({bug.kind}): {bug.says} {bug.where}")
+            print(f"{bug.crate}/{bug.label} ({bug.kind}): {bug.says}{bug.where and ': ' + bug.where}")
     if args.list:
         return print(f"{len(bugs)} bugs")
-    args.work.mkdir(parents=True, exist_ok=True)
-    book = Book(args.work / "verdicts.json", *reaches(), args.fresh)
-    todo = deque(bug for bug in bugs if not bug.verdict and not book.find(bug))
-    crates = list(dict.fromkeys(b.crate for b in todo))
-    workers = [Worker(args.work / str(n + 1), book) for n in range(min(args.workers, len(todo)))]
-    threads = [threading.Thread(target=work, args=(w, crates, todo)) for w in workers]
-    for thread in threads:
-        thread.start()
-    for thread in threads:
-        thread.join()
+    log = args.work / "log"
+    log.mkdir(parents=True, exist_ok=True)
+    below, above = reaches()
+    book = Book(args.work / "verdicts.json", below, above)
+    todo = [bug for bug in bugs if not bug.verdict and (args.fresh or not book.find(bug))]
+    workers = [Worker(args.work / str(n + 1), above, log) for n in range(min(args.workers, len(todo)))]
+    plant_all(todo, workers, book)
+    for worker in workers:
+        shutil.rmtree(worker.home)
     print("| crate | file | bug | kind | refused at |\n|---|---|---|---|---|")
     for bug in bugs:
         print(bug.row())
