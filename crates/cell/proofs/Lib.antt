@@ -5,5 +5,4 @@ pub mod Telling
 pub mod Turning
 pub mod Asking
 pub mod Joining
-pub mod Meant
 pub mod Passing

@@ -1,7 +1,7 @@
 // The calls that change one place.
 ghost use Rattle.std.specs.Prelude.{◌≡◌, IfErr};
 ghost use Rattle.model.specs.Calls.{opening, closing, arrival, report, step, make};
-ghost use Rattle.model.specs.Meaning.{meaning};
+ghost use Rattle.model.specs.Meaning.{meant};
 ghost use Rattle.model.specs.Promises.{Promises};
 ghost use Rattle.cell.specs.Answers.{made_as, answered};
 ghost use Rattle.cell.specs.View.{view};
@@ -21,7 +21,7 @@ impl<C: Chooser> Cell<C> {
     pub fn new(keep: u8, chooser: C) -> Result<Cell<C>, Unmade<C>>
         ensures made { made_as result ≡ make keep chooser }
         ensures back { IfErr result (λ u. u.chooser ≡ chooser) }
-        ensures promises { Promises {C = C} (meaning C.pick C.after_served C.after_joined C.after_cleared) }
+        ensures promises { Promises {C = C} (meant C.Chooser) }
     {
         Cell::vacant(keep, chooser)
     }
@@ -49,10 +49,10 @@ impl<C: Chooser> Cell<C> {
     // Opens a place at a rate of the tariff.
     pub fn open(&mut self, place: u8, rate: u32) -> Result<(), Refusal>
         ensures answer { answered result ≡
-            (step (meaning C.pick C.after_served C.after_joined C.after_cleared) (view self.old)
+            (step (meant C.Chooser) (view self.old)
             (opening place rate)).answer }
         ensures after { view self.new ≡
-            (step (meaning C.pick C.after_served C.after_joined C.after_cleared) (view self.old)
+            (step (meant C.Chooser) (view self.old)
             (opening place rate)).cell }
     {
         let row = self.opening(place, rate)?;
@@ -64,10 +64,10 @@ impl<C: Chooser> Cell<C> {
     // Closes a place whose session is not active, once the mark has come up to its virtual time.
     pub fn close(&mut self, place: u8) -> Result<(), Refusal>
         ensures answer { answered result ≡
-            (step (meaning C.pick C.after_served C.after_joined C.after_cleared) (view self.old) (closing place)
+            (step (meant C.Chooser) (view self.old) (closing place)
             ).answer }
         ensures after { view self.new ≡
-            (step (meaning C.pick C.after_served C.after_joined C.after_cleared) (view self.old) (closing place)
+            (step (meant C.Chooser) (view self.old) (closing place)
             ).cell }
     {
         let row = self.closing(place)?;
@@ -78,10 +78,10 @@ impl<C: Chooser> Cell<C> {
     // Queues a frame that has come for a place.
     pub fn arrive(&mut self, place: u8, frame: Frame) -> Result<(), Refusal>
         ensures answer { answered result ≡
-            (step (meaning C.pick C.after_served C.after_joined C.after_cleared) (view self.old)
+            (step (meant C.Chooser) (view self.old)
             (arrival place frame.tag frame.length)).answer }
         ensures after { view self.new ≡
-            (step (meaning C.pick C.after_served C.after_joined C.after_cleared) (view self.old)
+            (step (meant C.Chooser) (view self.old)
             (arrival place frame.tag frame.length)).cell }
     {
         let row = self.arrival(place, frame)?;
@@ -92,10 +92,10 @@ impl<C: Chooser> Cell<C> {
     // Sets whether the channel of a place is good.
     pub fn report(&mut self, place: u8, good: bool) -> Result<(), Refusal>
         ensures answer { answered result ≡
-            (step (meaning C.pick C.after_served C.after_joined C.after_cleared) (view self.old)
+            (step (meant C.Chooser) (view self.old)
             (report place good)).answer }
         ensures after { view self.new ≡
-            (step (meaning C.pick C.after_served C.after_joined C.after_cleared) (view self.old)
+            (step (meant C.Chooser) (view self.old)
             (report place good)).cell }
     {
         let row = self.reported(place, good)?;

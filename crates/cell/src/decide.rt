@@ -2,7 +2,7 @@
 ghost use Rattle.std.specs.Prelude.{◌≡◌, ◌<◌};
 ghost use Rattle.model.specs.Calls.{decide as decided};
 ghost use Rattle.model.specs.Lists.{Credit, Extra, in_list};
-ghost use Rattle.model.specs.Meaning.{meaning};
+ghost use Rattle.model.specs.Meaning.{meant};
 ghost use Rattle.model.specs.Turn.{way_of};
 ghost use Rattle.session.specs.Seen.{seen};
 ghost use Rattle.table.specs.Places.{table_of};
@@ -26,7 +26,7 @@ pub(crate) fn decide<C: Chooser>(
     requires inside { chosen < 64 }
     requires fair { Offerable (table_of rows.now) }
     requires found { before.now ≡ before_of (table_of rows.now) }
-    ensures { way_as result ≡ decided (meaning C.pick C.after_served C.after_joined C.after_cleared) (only chooser.now (table_of rows.now)) chosen }
+    ensures { way_as result ≡ decided (meant C.Chooser) (only chooser.now (table_of rows.now)) chosen }
 {
     way_of(&rows[chosen], rows, before, chooser)
 }
@@ -35,7 +35,7 @@ pub(crate) fn decide<C: Chooser>(
 fn way_of<C: Chooser>(row: &Row, rows: &[Row; 64], before: &Before, chooser: &C) -> Way
     requires fair { Offerable (table_of rows.now) }
     requires found { before.now ≡ before_of (table_of rows.now) }
-    ensures { way_as result ≡ way_of (seen row.now) (picked_from (meaning C.pick C.after_served C.after_joined C.after_cleared) chooser.now Credit (table_of rows.now)) (picked_from (meaning C.pick C.after_served C.after_joined C.after_cleared) chooser.now Extra (table_of rows.now)) }
+    ensures { way_as result ≡ way_of (seen row.now) (picked_from (meant C.Chooser) chooser.now Credit (table_of rows.now)) (picked_from (meant C.Chooser) chooser.now Extra (table_of rows.now)) }
 {
     if row.able() & !row.leads() {
         return Way::ByRight;
@@ -59,7 +59,7 @@ fn way_of<C: Chooser>(row: &Row, rows: &[Row; 64], before: &Before, chooser: &C)
 fn ask<C: Chooser>(chooser: &C, line: Line, rows: &[Row; 64], members: &[bool; 64]) -> Option<usize>
     requires fair { Offerable (table_of rows.now) }
     requires members { members.now ≡ in_list line (table_of rows.now) }
-    ensures { result ≡ picked_from (meaning C.pick C.after_served C.after_joined C.after_cleared) chooser.now line (table_of rows.now) }
+    ensures { result ≡ picked_from (meant C.Chooser) chooser.now line (table_of rows.now) }
 {
     let offer = offer(rows, line, members);
     chooser.ask(line, &offer)

@@ -1,6 +1,6 @@
 // One place is changed, and the cell settles.
 ghost use Rattle.std.specs.Prelude.{◌≡◌, ◌<◌};
-ghost use Rattle.model.specs.Meaning.{meaning};
+ghost use Rattle.model.specs.Meaning.{meant};
 ghost use Rattle.model.specs.Sound.{Sound};
 ghost use Rattle.session.specs.Seen.{seen};
 ghost use Rattle.cell.specs.Found.{Offerable, joins_by, with_session};
@@ -18,9 +18,9 @@ impl<C: Chooser> Cell<C> {
     pub(crate) fn put(&mut self, place: u8, row: Row)
         requires inside { place < 64 }
         requires ordered { Sound
-            (with_session (meaning C.pick C.after_served C.after_joined C.after_cleared) (view self.old) place (seen row)) }
+            (with_session (meant C.Chooser) (view self.old) place (seen row)) }
         ensures { view self.new ≡
-            with_session (meaning C.pick C.after_served C.after_joined C.after_cleared) (view self.old) place
+            with_session (meant C.Chooser) (view self.old) place
             (seen row) }
     {
         let at = usize::from(place);
@@ -37,7 +37,7 @@ fn tell_of<C: Chooser>(chooser: &mut C, line: Line, rows: &[Row; 64], place: usi
     requires inside { place < 64 }
     requires fair { Offerable (table_of rows.now) }
     ensures { chooser.new ≡
-        joins_by (meaning C.pick C.after_served C.after_joined C.after_cleared) line (table_of rows.now) place
+        joins_by (meant C.Chooser) line (table_of rows.now) place
         (seen row.now) chooser.old }
 {
     if row.stands_in(line) & !rows[place].stands_in(line) {

@@ -2,7 +2,7 @@
 ghost use Rattle.std.specs.Prelude.{◌≡◌};
 ghost use Rattle.model.specs.Cell.{joins};
 ghost use Rattle.model.specs.Lists.{stayed};
-ghost use Rattle.model.specs.Meaning.{meaning};
+ghost use Rattle.model.specs.Meaning.{meant};
 ghost use Rattle.cell.specs.Found.{Offerable, mark_left, joins_left};
 ghost use Rattle.table.specs.Places.{table_of};
 
@@ -24,7 +24,7 @@ pub(crate) fn offer(rows: &[Row; 64], line: Line, before: &[bool; 64]) -> Offer
 pub(crate) fn tell<C: Chooser>(chooser: &mut C, line: Line, rows: &[Row; 64], before: &[bool; 64])
     requires { Offerable (table_of rows.now) }
     ensures { chooser.new ≡
-        joins (meaning C.pick C.after_served C.after_joined C.after_cleared) line before.now
+        joins (meant C.Chooser) line before.now
         (table_of rows.now) chooser.old }
 {
     if anybody_joined(rows, line, before) {
@@ -36,7 +36,7 @@ pub(crate) fn tell<C: Chooser>(chooser: &mut C, line: Line, rows: &[Row; 64], be
 fn tell_each<C: Chooser>(chooser: &mut C, line: Line, rows: &[Row; 64], before: &[bool; 64])
     requires { Offerable (table_of rows.now) }
     ensures { chooser.new ≡
-        joins (meaning C.pick C.after_served C.after_joined C.after_cleared) line before.now
+        joins (meant C.Chooser) line before.now
         (table_of rows.now) chooser.old }
 {
     let stay = offer(rows, line, before);
@@ -57,7 +57,7 @@ pub(crate) fn settle<C: Chooser>(
     requires { Offerable (table_of rows.now) }
     ensures mark { result ≡ mark_left before.now (table_of rows.now) mark }
     ensures told { chooser.new ≡
-        joins_left (meaning C.pick C.after_served C.after_joined C.after_cleared) before.now
+        joins_left (meant C.Chooser) before.now
         (table_of rows.now) chooser.old }
 {
     tell(chooser, Line::Credit, rows, &before.credit);

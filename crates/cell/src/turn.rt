@@ -3,7 +3,7 @@ ghost use Rattle.std.specs.Prelude.{◌≡◌, ◌<◌, IfSome};
 ghost use Rattle.model.specs.Calls.{turn as a_turn, refusal, found, decide as decided, heard, step};
 ghost use Rattle.model.specs.Cell.{mark_after, all_joins};
 ghost use Rattle.model.specs.Departures.{departures};
-ghost use Rattle.model.specs.Meaning.{meaning};
+ghost use Rattle.model.specs.Meaning.{meant};
 ghost use Rattle.model.specs.Table.{at, chosen as chosen_of};
 ghost use Rattle.model.specs.Turn.{answer_of, turned};
 ghost use Rattle.table.specs.Places.{table_of};
@@ -45,8 +45,8 @@ impl<C> Cell<C> {
 impl<C: Chooser> Cell<C> {
     // One turn: the chosen session sends, or hands the turn on, and pays for it.
     pub fn turn(&mut self) -> Result<Turn, Refusal>
-        ensures answer { turned_as result ≡ (step (meaning C.pick C.after_served C.after_joined C.after_cleared) (view self.old) a_turn).answer }
-        ensures after { view self.new ≡ (step (meaning C.pick C.after_served C.after_joined C.after_cleared) (view self.old) a_turn).cell }
+        ensures answer { turned_as result ≡ (step (meant C.Chooser) (view self.old) a_turn).answer }
+        ensures after { view self.new ≡ (step (meant C.Chooser) (view self.old) a_turn).cell }
     {
         let chosen = self.next()?;
         let turn = pass(
@@ -70,10 +70,10 @@ fn pass<C: Chooser>(
     chosen: usize,
 ) -> Turn
     requires { Accepted keep mark.old (table_of rows.old) chosen }
-    ensures answer { result ≡ answer_of (table_of rows.old) chosen (decided (meaning C.pick C.after_served C.after_joined C.after_cleared) (only chooser.old (table_of rows.old)) chosen) }
-    ensures after { table_of rows.new ≡ departures (turned keep (table_of rows.old) chosen result.length (decided (meaning C.pick C.after_served C.after_joined C.after_cleared) (only chooser.old (table_of rows.old)) chosen)) }
+    ensures answer { result ≡ answer_of (table_of rows.old) chosen (decided (meant C.Chooser) (only chooser.old (table_of rows.old)) chosen) }
+    ensures after { table_of rows.new ≡ departures (turned keep (table_of rows.old) chosen result.length (decided (meant C.Chooser) (only chooser.old (table_of rows.old)) chosen)) }
     ensures marked { mark.new ≡ mark_after mark.old (table_of rows.old) (table_of rows.new) }
-    ensures told { chooser.new ≡ all_joins (meaning C.pick C.after_served C.after_joined C.after_cleared) (table_of rows.old) (table_of rows.new) (heard (meaning C.pick C.after_served C.after_joined C.after_cleared) (only chooser.old (table_of rows.old)) (decided (meaning C.pick C.after_served C.after_joined C.after_cleared) (only chooser.old (table_of rows.old)) chosen) result.length) }
+    ensures told { chooser.new ≡ all_joins (meant C.Chooser) (table_of rows.old) (table_of rows.new) (heard (meant C.Chooser) (only chooser.old (table_of rows.old)) (decided (meant C.Chooser) (only chooser.old (table_of rows.old)) chosen) result.length) }
 {
     let before = look(rows);
     let way = decide(rows, &before, chooser, chosen);
@@ -87,7 +87,7 @@ fn pass<C: Chooser>(
 // The chooser hears who was served in another's turn.
 fn tell_served<C: Chooser>(chooser: &mut C, way: Way, rows: &[Row; 64], bytes: u16)
     requires { IfSome (handed_to (way_as way)) (λ q. q < 64) }
-    ensures { chooser.new ≡ heard (meaning C.pick C.after_served C.after_joined C.after_cleared) (only chooser.old (table_of rows.now)) (way_as way) bytes }
+    ensures { chooser.new ≡ heard (meant C.Chooser) (only chooser.old (table_of rows.now)) (way_as way) bytes }
 {
     match way {
         Way::ByCredit(place) => chooser.served(Line::Credit, place, bytes, price(rows, place)),

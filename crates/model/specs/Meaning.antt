@@ -2,6 +2,7 @@
 use Rattle.std.specs.Prelude.{◌≡◌, ℕ, Bool, true, false, List, None, Option, refl}
 use Rattle.chooser.specs.Offers.{sound, PicksOffered}
 use Rattle.chooser.specs.declared.offer.Offer.{Offer}
+use Rattle.chooser.specs.declared.Chooser.{Ghosts}
 use Rattle.model.specs.Lists.{Entry, Line}
 
 pub record Meaning (C : Type 0) : Type 0 where
@@ -28,3 +29,7 @@ meaning pick served joined cleared = record {
   joined = λ c l k es. if_sound c (joined c l k) es (sound es) refl;
   cleared = cleared;
 }
+
+-- what a chooser of the code means, by all that its trait says of it
+abbrev pub meant : {C : Type 0} → Ghosts C → Meaning C
+meant g = meaning g.pick g.after_served g.after_joined g.after_cleared

@@ -2,7 +2,7 @@
 ghost use Rattle.std.specs.Prelude.{◌≡◌};
 ghost use Rattle.cell.specs.View.{view};
 ghost use Rattle.model.specs.Calls.{step};
-ghost use Rattle.model.specs.Meaning.{meaning};
+ghost use Rattle.model.specs.Meaning.{meant};
 ghost use Rattle.replay.specs.Events.{call_of, at_record};
 
 use answer::{Answer, Fault, Layer, Refusal};
@@ -13,8 +13,8 @@ use record::Event;
 
 // Makes the call that an event stands for. A refusal becomes the fault of the record with this number.
 pub fn apply<C: Chooser>(cell: &mut Cell<C>, event: Event, number: u64) -> Result<Answer, Fault>
-    ensures answer { result ≡ at_record number (step (meaning C.pick C.after_served C.after_joined C.after_cleared) (view cell.old) (call_of event.entry)).answer }
-    ensures after { view cell.new ≡ (step (meaning C.pick C.after_served C.after_joined C.after_cleared) (view cell.old) (call_of event.entry)).cell }
+    ensures answer { result ≡ at_record number (step (meant C.Chooser) (view cell.old) (call_of event.entry)).answer }
+    ensures after { view cell.new ≡ (step (meant C.Chooser) (view cell.old) (call_of event.entry)).cell }
 {
     match call(cell, event) {
         Ok(answer) => Ok(answer),
@@ -29,8 +29,8 @@ pub fn apply<C: Chooser>(cell: &mut Cell<C>, event: Event, number: u64) -> Resul
 
 // The same without a record.
 pub fn call<C: Chooser>(cell: &mut Cell<C>, event: Event) -> Result<Answer, Refusal>
-    ensures answer { result ≡ (step (meaning C.pick C.after_served C.after_joined C.after_cleared) (view cell.old) (call_of event.entry)).answer }
-    ensures after { view cell.new ≡ (step (meaning C.pick C.after_served C.after_joined C.after_cleared) (view cell.old) (call_of event.entry)).cell }
+    ensures answer { result ≡ (step (meant C.Chooser) (view cell.old) (call_of event.entry)).answer }
+    ensures after { view cell.new ≡ (step (meant C.Chooser) (view cell.old) (call_of event.entry)).cell }
 {
     match event {
         Event::Open { place, rate, .. } => cell.open(place, rate)?,

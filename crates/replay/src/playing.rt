@@ -1,7 +1,7 @@
 // A recording played into a cell, record by record.
 ghost use Rattle.std.specs.Prelude.{◌≡◌};
 ghost use Rattle.cell.specs.View.{view};
-ghost use Rattle.model.specs.Meaning.{meaning};
+ghost use Rattle.model.specs.Meaning.{meant};
 ghost use Rattle.record.specs.Reading.{reading};
 ghost use Rattle.replay.specs.Playing.{cell_after, outcome, outcome_of};
 
@@ -14,8 +14,8 @@ use record::read;
 // Reads the next record of the input, by its number, and makes its call.
 #[tactic(auto, using(crate::proofs::Calls::same_call))]
 pub fn play_record<'a, C: Chooser>(cell: &mut Cell<C>, input: &'a [u8], number: u64) -> Played<'a>
-    ensures answer { outcome result ≡ outcome_of (meaning C.pick C.after_served C.after_joined C.after_cleared) (view cell.old) number (reading number input.now) }
-    ensures after { view cell.new ≡ cell_after (meaning C.pick C.after_served C.after_joined C.after_cleared) (view cell.old) (reading number input.now) }
+    ensures answer { outcome result ≡ outcome_of (meant C.Chooser) (view cell.old) number (reading number input.now) }
+    ensures after { view cell.new ≡ cell_after (meant C.Chooser) (view cell.old) (reading number input.now) }
 {
     match read(input, number) {
         Ok(None) => Played::Ended,

@@ -2,7 +2,7 @@ use Rattle.std.proofs.Common.{List, sym, ap, ◌∙◌, arith}
 use Rattle.model.specs.Lists.{Entry}
 use Rattle.session.specs.Seen.{seen}
 use Rattle.cell.proofs.Joining.{one_joins, none_joins}
-use Rattle.cell.proofs.Meant.{meant}
+use Rattle.model.specs.Meaning.{meant}
 use Rattle.cell.proofs.Telling.{if_sound_is}
 use Rattle.cell.proofs.put.tell_of.Goals as goal
 

@@ -1,7 +1,7 @@
 use Rattle.std.proofs.Common.{sym, ◌∙◌}
 use Rattle.table.specs.Places.{table_of}
 use Rattle.cell.proofs.Joining.{nobody_joins}
-use Rattle.cell.proofs.Meant.{meant}
+use Rattle.model.specs.Meaning.{meant}
 use Rattle.cell.proofs.settle.tell.Goals as goal
 
 pub returns-else-anybody_joined : goal.returns-else-anybody_joined

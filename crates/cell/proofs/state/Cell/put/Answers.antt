@@ -3,7 +3,7 @@ use Rattle.model.proofs.Order.{books}
 use Rattle.model.specs.Cell.{Cell}
 use Rattle.model.specs.Sound.{InOrder}
 use Rattle.cell.proofs.Joining.{put_told}
-use Rattle.cell.proofs.Meant.{meant}
+use Rattle.model.specs.Meaning.{meant}
 use Rattle.cell.proofs.Offering.{offerable}
 use Rattle.cell.proofs.Rows.{rows_sized}
 use Rattle.cell.proofs.state.Cell.put.Goals as goal
