@@ -7,10 +7,13 @@ ghost use Rattle.chooser.specs.declared.offer.Offer.{Offer as TheOffer};
 ghost use Rattle.chooser.specs.Offers.{PicksOffered};
 
 mod entry;
+mod numbering;
 mod offer;
+mod place;
 
 pub use entry::{Entry, Line};
 pub use offer::Offer;
+pub use place::Place;
 
 // A chooser answers whom it would pick now, and is told what happened. It refuses nothing.
 pub trait Chooser {

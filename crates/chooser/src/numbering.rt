@@ -1,0 +1,35 @@
+// Places by their numbers.
+ghost use Rattle.std.specs.Prelude.{◌≡◌, ◌<◌};
+ghost use Rattle.chooser.specs.Places.{numbers, place_numbered};
+
+use super::place::Place;
+
+impl Place {
+    // The place of this number, if there is one.
+    pub fn new(number: usize) -> Option<Place>
+        ensures { numbers result ≡ place_numbered number }
+    {
+        if number < 64 {
+            Some(Place {
+                number: number as u8,
+            })
+        } else {
+            None
+        }
+    }
+
+    // As calls and answers name it.
+    pub fn number(self) -> u8
+        ensures { result ≡ self.number }
+    {
+        self.number
+    }
+
+    // Where a row of all 64 has it.
+    pub fn index(self) -> usize
+        ensures is { result ≡ self.number }
+        ensures inside { result < 64 }
+    {
+        usize::from(self.number)
+    }
+}
