@@ -1,11 +1,8 @@
 -- One text after another at the end of a line.
-use Rattle.std.proofs.Common.{◌≡◌, ℕ, ◌+◌, ◌-◌, ◌<◌, ◌≤◌, Bool, true, false, cond, nat_lt, List, [], ◌++◌, length, take, Result, Ok, Err, IfOk, sym, ap, ◌∙◌, subst, inl, inr, append_assoc, arith, length-append, length-take}
+use Rattle.std.proofs.Common.{◌≡◌, ℕ, ◌+◌, ◌-◌, ◌<◌, ◌≤◌, List, [], ◌++◌, length, take, sym, ap, ◌∙◌, inl, inr, append_assoc, arith, length-append, length-take}
 use Rattle.std.proofs.lemmas.List.{take_all, take-take, take-append-le}
 use Rattle.std.proofs.lemmas.Bool.{cases_lt}
 use Rattle.std.proofs.Math.Seq.{take-append-add}
-use Rattle.answer.specs.declared.refusal.Refusal.{Refusal}
-use Rattle.answer.specs.declared.refusal.Refusal.TheVariants.{BufferTooShort}
-use Rattle.record.specs.Lines.{lining}
 use Rattle.record.specs.Putting.{appended}
 
 -- what was cut off already makes no difference
@@ -36,10 +33,3 @@ both_short head tail h t = simp length-append (omega arith)
 pub whole : {line one : List ℕ} (text : List ℕ) → line ≡ [] → one ≡ appended line text → length text < 64 → one ≡ text
 unfolding appended
 whole text e f h = f ∙ ap (λ (l : List ℕ). appended l text) e ∙ take_all 64 text (omega arith)
-
-by_room : (b : Bool) (n : ℕ) → n < 64 → IfOk (cond b (Err BufferTooShort) (Ok n)) (λ n. n < 64)
-by_room true n h = tt
-by_room false n h = h
-
-pub is_short : {r : Result ℕ Refusal} (text out : List ℕ) → r ≡ lining text out → length text < 64 → IfOk r (λ n. n < 64)
-is_short text out e h = subst (λ (r : Result ℕ Refusal). IfOk r (λ n. n < 64)) (sym e) (by_room (nat_lt (length out) 64) (length text) h)

@@ -19,10 +19,7 @@ pub fn line(
     ensures after { out.new ≡ buffer_after result (line_text number (contents event.entry) res) out.old }
     ensures short { IfOk result (λ n. n < 64) }
 {
-    let mut text = Text::new();
-    text.push_head(number, event.letter().byte(), res);
-    text.push_note(event.note());
-    text.store(out)
+    Text::of_event(number, event, res).store(out)
 }
 
 // The line of a record in which no event was read.
@@ -31,8 +28,5 @@ pub fn fault_line(number: u64, why: Refusal, out: &mut [u8]) -> Result<usize, Re
     ensures after { out.new ≡ buffer_after result (fault_text number why) out.old }
     ensures short { IfOk result (λ n. n < 64) }
 {
-    let mut text = Text::new();
-    text.push_head(number, b'?', Err(why));
-    text.push(b"\n");
-    text.store(out)
+    Text::of_fault(number, why).store(out)
 }

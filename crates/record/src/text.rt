@@ -1,9 +1,11 @@
 // A line as it is made.
-ghost use Rattle.std.specs.Prelude.{◌≡◌, ℕ, ◌≤◌, List, [], ◌++◌, Some, codes, length, take};
-ghost use Rattle.record.specs.Lines.{head_text, lining, newline, refusal_text, result_text, sent_text, turn_text};
+ghost use Rattle.std.specs.Prelude.{◌≡◌, ℕ, ◌<◌, ◌≤◌, List, [], ◌++◌, IfOk, Some, codes, length, take};
+ghost use Rattle.record.specs.Layout.{contents};
+ghost use Rattle.record.specs.Lines.{fault_text, head_text, line_text, lining, newline, refusal_text, result_text, sent_text, turn_text};
 ghost use Rattle.record.specs.Putting.{appended};
 ghost use Rattle.record.specs.Writing.{after as buffer_after};
 
+use crate::event::Event;
 use answer::{Answer, Refusal, Sent, Turn};
 use itoa::{Buffer, Integer};
 use std::marker::Model;
@@ -27,7 +29,42 @@ impl Model for Text {
 }
 
 impl Text {
-    pub(crate) fn new() -> Text
+    // The line of an event and its result.
+    pub(crate) fn of_event(number: u64, event: Event, res: Result<Answer, Refusal>) -> Text
+        ensures text { result ≡ line_text number (contents event.entry) res }
+        ensures short { length (line_text number (contents event.entry) res) < 64 }
+    {
+        let mut text = Text::new();
+        text.push_head(number, event.letter().byte(), res);
+        text.push_note(event.note());
+        text
+    }
+
+    // The line of a record in which no event was read.
+    pub(crate) fn of_fault(number: u64, why: Refusal) -> Text
+        ensures text { result ≡ fault_text number why }
+        ensures short { length (fault_text number why) < 64 }
+    {
+        let mut text = Text::new();
+        text.push_head(number, b'?', Err(why));
+        text.push(b"\n");
+        text
+    }
+
+    // Into the front of a buffer that has room for the longest line; the text's length.
+    pub(crate) fn store(&self, out: &mut [u8]) -> Result<usize, Refusal>
+        ensures answer { result ≡ lining self.now out.old }
+        ensures after { out.new ≡ buffer_after result self.now out.old }
+        ensures short { length self.now < 64 → IfOk result (λ n. n < 64) }
+    {
+        if out.len() < LINE {
+            return Err(Refusal::BufferTooShort);
+        }
+        out[..self.len].copy_from_slice(&self.bytes[..self.len]);
+        Ok(self.len)
+    }
+
+    fn new() -> Text
         ensures { result ≡ [] }
     {
         Text {
@@ -36,7 +73,7 @@ impl Text {
         }
     }
 
-    pub(crate) fn push(&mut self, more: &[u8])
+    fn push(&mut self, more: &[u8])
         ensures { self.new ≡ appended self.old more.now }
     {
         let fitting = &more[..more.len().min(LINE - self.len)];
@@ -103,7 +140,7 @@ impl Text {
     }
 
     // Number, letter and result.
-    pub(crate) fn push_head(&mut self, number: u64, letter: u8, res: Result<Answer, Refusal>)
+    fn push_head(&mut self, number: u64, letter: u8, res: Result<Answer, Refusal>)
         ensures text { self.new ≡ appended self.old (head_text number letter res) }
         ensures short { length (head_text number letter res) ≤ 49 }
     {
@@ -113,24 +150,12 @@ impl Text {
     }
 
     // A space, the note's first eight bytes and a newline.
-    pub(crate) fn push_note(&mut self, note: &[u8])
+    fn push_note(&mut self, note: &[u8])
         ensures text { self.new ≡ appended self.old (codes " " ++ (take 8 note.now ++ newline)) }
         ensures short { length (codes " " ++ (take 8 note.now ++ newline)) ≤ 10 }
     {
         self.push(b" ");
         self.push(&note[..note.len().min(8)]);
         self.push(b"\n");
-    }
-
-    // Into the front of a buffer that has room for the longest line; the text's length.
-    pub(crate) fn store(&self, out: &mut [u8]) -> Result<usize, Refusal>
-        ensures answer { result ≡ lining self.now out.old }
-        ensures after { out.new ≡ buffer_after result self.now out.old }
-    {
-        if out.len() < LINE {
-            return Err(Refusal::BufferTooShort);
-        }
-        out[..self.len].copy_from_slice(&self.bytes[..self.len]);
-        Ok(self.len)
     }
 }
