@@ -13,5 +13,5 @@ pub use event::Event;
 pub use letter::Letter;
 pub use lines::{fault_line, line};
 pub use reader::read;
-pub use text::kind_byte;
+pub use text::LINE;
 pub use writer::write;
