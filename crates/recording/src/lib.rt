@@ -6,6 +6,10 @@ ghost use Rattle.std.specs.Prelude.{◌≤◌, IfOk};
 use std::io;
 use std::io::Read;
 
+mod records;
+
+pub use records::{Record, Records};
+
 // How many records are read at most, and the bytes that they have.
 pub const RECORDS: u64 = 1_000_000;
 
