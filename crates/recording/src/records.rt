@@ -1,5 +1,5 @@
 // The records of an input, one after the other.
-ghost use Rattle.std.specs.Prelude.{◌≡◌, ◌+◌, ◌-◌, ◌≤◌, take, MatchOption, IfOk};
+ghost use Rattle.std.specs.Prelude.{◌≡◌, ◌+◌, ◌-◌, ◌<◌, ◌≤◌, take, MatchOption, IfOk};
 ghost use Rattle.std.specs.Iterator.{at_most};
 
 use crate::{RECORDS, fill};
@@ -63,7 +63,7 @@ where
 
     ghost next_gives = { λ s r t.
         MatchOption r (s.numbers.end ≤ s.numbers.start) (λ read.
-            IfOk read (λ rec. rec.number ≡ s.numbers.start)
+            IfOk read (λ rec. rec.number ≡ s.numbers.start) × (s.numbers.start < s.numbers.end)
             × (t.numbers.start ≡ s.numbers.start + 1) × (t.numbers.end ≡ s.numbers.end)) };
 
     ghost remaining = { λ s. at_most (s.numbers.end - s.numbers.start) };
