@@ -1,5 +1,5 @@
 // Which sheets are asked for.
-ghost use Rattle.std.specs.Prelude.{◌≡◌, None};
+ghost use Rattle.std.specs.Prelude.{◌≡◌};
 ghost use Rattle.joblags.specs.Sheets.{is_due};
 ghost use Rattle.joblags.specs.Words.{AskedFor};
 

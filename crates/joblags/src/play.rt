@@ -48,8 +48,10 @@ fn play_all<C: Chooser, R: Read, W: Write>(
             Ok(None) => break,
             Ok(Some(_)) => played = record.number,
             Err(fault) => {
-                let fault = Some(fault);
-                return Ok(End { played, fault });
+                return Ok(End {
+                    played,
+                    fault: Some(fault),
+                });
             }
         }
         if due(every, played) {
@@ -60,8 +62,10 @@ fn play_all<C: Chooser, R: Read, W: Write>(
             write!(out, "{sheet}")?;
         }
     }
-    let fault = None;
-    Ok(End { played, fault })
+    Ok(End {
+        played,
+        fault: None,
+    })
 }
 
 // Plays a recording and ends with its last sheet, unless that was due anyway.

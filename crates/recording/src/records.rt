@@ -1,13 +1,15 @@
 // The records of an input, one after the other.
 ghost use Rattle.std.specs.Prelude.{◌≡◌, ◌+◌, ◌-◌, ◌<◌, ◌≤◌, take, MatchOption, IfOk};
 ghost use Rattle.std.specs.Iterator.{at_most};
+ghost use Rattle.recording.specs.Taking.{Takes};
 
 use crate::{RECORDS, fill};
 use std::io;
 use std::io::Read;
 use std::ops::Range;
 
-// What was read of a record: its sixteen bytes, or fewer where the input ends in it.
+// What was read of a record: its sixteen bytes, or fewer where the input ends in it. An array and how much of it counts,
+// since an iterator cannot lend its buffer.
 #[derive(Drop)]
 pub struct Record {
     pub number: u64,
@@ -18,7 +20,8 @@ pub struct Record {
 
 impl Record {
     fn read<R: Read>(reader: &mut R, number: u64) -> io::Result<Record>
-        ensures { IfOk result (λ rec. rec.number ≡ number) }
+        ensures number { IfOk result (λ rec. rec.number ≡ number) }
+        ensures bytes { IfOk result (λ rec. Takes (R.remaining reader.old) (R.remaining reader.new) rec.bytes rec.size) }
     {
         let mut bytes = [0u8; 16];
         let size = fill(reader, &mut bytes)?;
@@ -45,8 +48,7 @@ pub struct Records<R> {
 
 impl<R> Records<R> {
     pub fn new(reader: R) -> Records<R>
-        ensures first { result.numbers.start ≡ 1 }
-        ensures last { result.numbers.end ≡ RECORDS + 1 }
+        ensures { result ≡ record { reader = reader; numbers = record { start = 1; end = RECORDS + 1 } } }
     {
         Records {
             reader,
@@ -61,10 +63,13 @@ where
 {
     type Item = io::Result<Record>;
 
+    // The numbers go on by one, and a record has the next bytes of the input.
     ghost next_gives = { λ s r t.
         MatchOption r (s.numbers.end ≤ s.numbers.start) (λ read.
-            IfOk read (λ rec. rec.number ≡ s.numbers.start) × (s.numbers.start < s.numbers.end)
-            × (t.numbers.start ≡ s.numbers.start + 1) × (t.numbers.end ≡ s.numbers.end)) };
+        IfOk read (λ rec. (rec.number ≡ s.numbers.start)
+        × Takes (R.remaining s.reader) (R.remaining t.reader) rec.bytes rec.size)
+        × (s.numbers.start < s.numbers.end)
+        × (t.numbers.start ≡ s.numbers.start + 1) × (t.numbers.end ≡ s.numbers.end)) };
 
     ghost remaining = { λ s. at_most (s.numbers.end - s.numbers.start) };
 
