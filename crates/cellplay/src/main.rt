@@ -1,23 +1,14 @@
 // Plays a recording into a cell, and prints the line of each record.
 #![tactic(auto)]
 
-use answer::{Answer, Fault, Refusal};
 use cell::Cell;
 use chooser::Chooser;
 use least_served::LeastServed;
-use record::{fault_line, line};
-use recording::fill;
-use replay::{KEEP, Played, play_record};
+use record::{LINE, fault_line, line};
+use recording::Records;
+use replay::{Asked, KEEP, play_record};
 use std::io;
 use std::io::{BufReader, BufWriter, Read, Write};
-
-// The cell's answer, as a line shows it.
-fn shown(res: Result<Answer, Fault>) -> Result<Answer, Refusal> {
-    match res {
-        Ok(answer) => Ok(answer),
-        Err(fault) => Err(fault.refusal),
-    }
-}
 
 // Plays the records up to the end, a fault of a record or the limit.
 fn play<C: Chooser, R: Read, W: Write>(
@@ -25,22 +16,20 @@ fn play<C: Chooser, R: Read, W: Write>(
     reader: &mut R,
     out: &mut W,
 ) -> io::Result<()> {
-    let mut bytes = [0u8; 16];
-    let mut text = [0u8; 64];
-    for number in 1..recording::RECORDS + 1 {
-        let n = fill(reader, &mut bytes)?;
-        match play_record(cell, &bytes[0..n], number) {
-            Played::Ended => break,
-            Played::Asked(event, result) => {
-                if let Ok(end) = line(number, event, shown(result), &mut text) {
-                    out.write_all(&text[0..end])?;
-                }
+    let mut text = [0u8; LINE];
+    for record in Records::new(reader) {
+        let record = record?;
+        let number = record.number;
+        match play_record(cell, record.bytes(), number) {
+            Ok(None) => break,
+            Ok(Some(Asked { event, result })) => {
+                let shown = result.map_err(|fault| fault.refusal);
+                let end = line(number, event, shown, &mut text).unwrap();
+                out.write_all(&text[..end])?;
             }
-            Played::Unread(fault) => {
-                if let Ok(end) = fault_line(number, fault.refusal, &mut text) {
-                    out.write_all(&text[0..end])?;
-                }
-                break;
+            Err(fault) => {
+                let end = fault_line(number, fault.refusal, &mut text).unwrap();
+                return out.write_all(&text[..end]);
             }
         }
     }
@@ -50,8 +39,7 @@ fn play<C: Chooser, R: Read, W: Write>(
 fn main(rt: HostRuntime) -> io::Result<()> {
     let mut reader = BufReader::new(rt.alloc(), rt.stdin().take(recording::BYTES))?;
     let mut out = BufWriter::new(rt.alloc(), rt.stdout())?;
-    if let Ok(mut cell) = Cell::new(KEEP, LeastServed::new()) {
-        play(&mut cell, &mut reader, &mut out)?;
-    }
+    let mut cell = Cell::new(KEEP, LeastServed::new()).unwrap();
+    play(&mut cell, &mut reader, &mut out)?;
     out.flush()
 }

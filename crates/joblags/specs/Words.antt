@@ -1,18 +1,26 @@
--- What a word after the program's name asks for.
-use Rattle.std.specs.Prelude.{◌≡◌, ℕ, ◌^◌, ◌<◌, Bool, true, false, List, Some, None, Option}
-use Rattle.std.specs.Borrow.{Bor}
+-- What the words after the program's name ask for.
+use Rattle.std.specs.Prelude.{◌≡◌, ℕ, ◌^◌, ◌<◌, List, [], ◌∷◌, Some, None, Ok, Err, Option, Result, String, string_bytes, IsErr}
+use Rattle.std.specs.Global.{Global}
+use Rattle.std.specs.declared.num.NonZeroU64.{NonZeroU64}
+use Rattle.std.specs.Int.NonZero.{non_zero_u64_get}
 use Rattle.std.specs.Str.Parse.{IsNumeral, without_leading_plus, digits_value}
+use Rattle.joblags.specs.declared.asked.Misuse.{Misuse}
 
 -- decimal digits, after a plus if there is one, of a number of 64 bits
 abbrev pub Fitting : List ℕ → Type 0
 Fitting text = IsNumeral 10 (without_leading_plus text) × (digits_value 10 (without_leading_plus text) < 2 ^ 64)
 
-abbrev pub IsNumber : List ℕ → Option ℕ → Type 0
-IsNumber text (Some n) = Fitting text × (n ≡ digits_value 10 (without_leading_plus text))
-IsNumber text None = Fitting text → ⊥
+-- a number, and 0 where there is none
+abbrev pub number : Option NonZeroU64 → ℕ
+number None = 0
+number (Some n) = non_zero_u64_get n
 
--- after how many records a sheet is due, 0 where nothing is said, none where it is no number or more is said
-abbrev pub AskedFor : Option (Bor (List ℕ)) → Bool → Option ℕ → Type 0
-AskedFor None more r = r ≡ Some 0
-AskedFor (Some word) false r = IsNumber word.now r
-AskedFor (Some word) true r = r ≡ None
+abbrev pub IsNumber : List ℕ → Result (Option NonZeroU64) Misuse → Type 0
+IsNumber text (Ok every) = Fitting text × (number every ≡ digits_value 10 (without_leading_plus text))
+IsNumber text (Err _) = Fitting text → ⊥
+
+-- after how many records a sheet is due: never where nothing is said or 0, refused where it is no number or more is said
+abbrev pub AskedFor : List (String Global) → Result (Option NonZeroU64) Misuse → Type 0
+AskedFor [] r = r ≡ Ok None
+AskedFor (word ∷ []) r = IsNumber (string_bytes word) r
+AskedFor (word ∷ (more ∷ words)) r = IsErr r

@@ -1,29 +1,43 @@
 // Which sheets are asked for.
 ghost use Rattle.std.specs.Prelude.{◌≡◌};
 ghost use Rattle.joblags.specs.Sheets.{is_due};
-ghost use Rattle.joblags.specs.Words.{AskedFor, IsNumber};
+ghost use Rattle.joblags.specs.Words.{AskedFor};
 
-// After how many records a sheet is due, again and again, or 0 for the end alone, by the first word that is given;
-// none where it is no number, or is not alone.
-pub(crate) fn every(word: Option<&str>, more: bool) -> Option<u64>
-    ensures { AskedFor word.entry more result }
-{
-    match word {
-        None => Some(0),
-        Some(text) => if more { None } else { number(text) },
+use std::fmt;
+use std::num::{NonZeroU64, ParseIntError};
+
+// The words after the program's name are more than one, or no number.
+#[derive(Clone, Copy, PartialEq, Eq, Debug)]
+pub(crate) struct Misuse;
+
+impl fmt::Display for Misuse {
+    fn fmt<W: fmt::Write>(&self, f: &mut fmt::Formatter<W>) -> fmt::Result {
+        f.write_str(
+            "joblags [N] < recording: job sheets at the end, and after every Nth record too",
+        )
     }
 }
 
-// The number that a text is, in decimal digits.
-fn number(text: &str) -> Option<u64>
-    ensures { IsNumber text.now result }
+impl From<ParseIntError> for Misuse {
+    fn from(_: ParseIntError) -> Misuse {
+        Misuse
+    }
+}
+
+// After how many records a sheet is due, again and again, or none for the end alone.
+pub(crate) fn every(words: &[String]) -> Result<Option<NonZeroU64>, Misuse>
+    ensures { AskedFor words.now result }
 {
-    text.parse::<u64>().ok()
+    match words {
+        [] => Ok(None),
+        [word] => Ok(NonZeroU64::new(word.as_str().parse()?)),
+        _ => Err(Misuse),
+    }
 }
 
 // Whether a sheet is due after this record, however the recording goes on. Nothing is due before the first.
-pub(crate) fn due(every: u64, number: u64) -> bool
+pub(crate) fn due(every: Option<NonZeroU64>, number: u64) -> bool
     ensures { result ≡ is_due every number }
 {
-    every > 0 && number > 0 && number % every == 0
+    every.is_some_and(|every| number > 0 && number % every == 0)
 }

@@ -2,7 +2,10 @@
 ghost use Rattle.std.specs.Prelude.{◌≡◌};
 ghost use Rattle.joblags.specs.Balances.{balance_of};
 
-#[derive(Clone, Copy)]
+use std::cmp::Ordering;
+use std::fmt;
+
+#[derive(Clone, Copy, PartialEq, Eq, Debug)]
 pub(crate) enum Balance {
     // the session is owed bytes
     Owed,
@@ -11,25 +14,25 @@ pub(crate) enum Balance {
     Even,
 }
 
-impl Balance {
-    pub(crate) fn of(lag: i64) -> Balance
-        ensures { result ≡ balance_of lag }
-    {
-        if lag > 0 {
-            Balance::Owed
-        } else if lag < 0 {
-            Balance::Ahead
-        } else {
-            Balance::Even
+impl From<i64> for Balance {
+    ghost from_gives = { λ lag balance. balance ≡ balance_of lag };
+
+    fn from(lag: i64) -> Balance {
+        match lag.cmp(&0) {
+            Ordering::Greater => Balance::Owed,
+            Ordering::Less => Balance::Ahead,
+            Ordering::Equal => Balance::Even,
         }
     }
+}
 
-    // In one word, so that every line of a sheet has as many.
-    pub(crate) fn word(self) -> &'static str {
-        match self {
+// In one word, so that every line of a sheet has as many.
+impl fmt::Display for Balance {
+    fn fmt<W: fmt::Write>(&self, f: &mut fmt::Formatter<W>) -> fmt::Result {
+        f.pad(match self {
             Balance::Owed => "owed",
             Balance::Ahead => "ahead",
             Balance::Even => "-",
-        }
+        })
     }
 }

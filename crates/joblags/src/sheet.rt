@@ -49,19 +49,20 @@ impl Line {
     fn of<C>(cell: &Cell<C>, place: u8) -> Option<Line>
         ensures { result ≡ line_of place (standings (asked (view cell.now) place)) }
     {
-        match cell.session(place) {
-            Ok(standing) => Some(Line { place, standing }),
-            Err(_) => None,
-        }
+        cell.session(place)
+            .ok()
+            .map(|standing| Line { place, standing })
     }
 }
 
 impl fmt::Display for Head {
     fn fmt<W: fmt::Write>(&self, f: &mut fmt::Formatter<W>) -> fmt::Result {
-        let after = self.after;
-        let mark = self.mark;
-        let booked = self.booked;
-        let turns = self.turns;
+        let Head {
+            after,
+            mark,
+            booked,
+            turns,
+        } = self;
         write!(
             f,
             "after record {after} mark {mark} booked {booked} turns {turns}"
@@ -72,28 +73,31 @@ impl fmt::Display for Head {
 // The widths hold whatever a million records bring: 16 digits of virtual time, 10 of lag and its sign.
 impl fmt::Display for Line {
     fn fmt<W: fmt::Write>(&self, f: &mut fmt::Formatter<W>) -> fmt::Result {
-        let place = self.place;
-        let rate = self.standing.rate;
-        let time = self.standing.virtual_time;
-        let lag = self.standing.lag;
-        let word = Balance::of(lag).word();
-        let channel = if self.standing.good { "good" } else { "bad" };
-        let waiting = self.standing.waiting;
+        let Line { place, standing } = self;
+        let Standing {
+            rate,
+            virtual_time: time,
+            lag,
+            good,
+            waiting,
+            ..
+        } = *standing;
+        let balance = Balance::from(lag);
+        let channel = if good { "good" } else { "bad" };
         write!(f, "place {place:>2} rate {rate:>6} time {time:>16} ")?;
         write!(
             f,
-            "lag {lag:>11} {word:<5} channel {channel:<4} waiting {waiting:>2}"
+            "lag {lag:>11} {balance:<5} channel {channel:<4} waiting {waiting:>2}"
         )
     }
 }
 
 impl<C> fmt::Display for Sheet<'_, C> {
     fn fmt<W: fmt::Write>(&self, f: &mut fmt::Formatter<W>) -> fmt::Result {
-        writeln!(f, "{}", Head::of(self.cell, self.after))?;
-        for place in 0..64 {
-            if let Some(line) = Line::of(self.cell, place) {
-                writeln!(f, "{line}")?;
-            }
+        let Sheet { after, cell } = *self;
+        writeln!(f, "{}", Head::of(cell, after))?;
+        for line in (0..64).filter_map(|place| Line::of(cell, place)) {
+            writeln!(f, "{line}")?;
         }
         Ok(())
     }

@@ -1,11 +1,8 @@
 // Prints a recording in words, event by event, and what it adds up to.
 #![tactic(auto)]
 
-ghost use Rattle.std.specs.Prelude.{IfOk};
-ghost use Rattle.reclist.specs.Tallies.{Small};
-
 use record::read;
-use recording::fill;
+use recording::Records;
 use std::io;
 use std::io::{BufReader, BufWriter, Read, Write};
 
@@ -16,15 +13,12 @@ use tally::Tally;
 use words::{InWords, Stopped};
 
 // Lists the records up to the end, a fault or the limit.
-fn list<R: Read, W: Write>(reader: &mut R, out: &mut W) -> io::Result<Tally>
-    ensures { IfOk result Small }
-{
-    let mut bytes = [0u8; 16];
+fn list<R: Read, W: Write>(reader: &mut R, out: &mut W) -> io::Result<Tally> {
     let mut tally = Tally::new();
-    while tally.records() < recording::RECORDS {
-        let number = tally.records() + 1;
-        let n = fill(reader, &mut bytes)?;
-        match read(&bytes[0..n], number) {
+    for record in Records::new(reader) {
+        let record = record?;
+        let number = record.number;
+        match read(record.bytes(), number) {
             Ok(None) => break,
             Ok(Some((event, _))) => {
                 writeln!(out, "{}", InWords { number, event })?;

@@ -1,21 +1,30 @@
 // What a recording adds up to.
 ghost use Rattle.std.specs.Prelude.{◌≡◌, ◌+◌, ◌<◌};
 ghost use Rattle.record.specs.Layout.{contents};
-ghost use Rattle.reclist.specs.Tallies.{Small, counted, empty, records as all_records};
+ghost use Rattle.reclist.specs.Tallies.{Counts, Small, counted, counts, empty, records as all_records};
 
 use record::Event;
 use std::fmt;
+use std::marker::Model;
 
 // Records by letter, and the bytes of the frames that were offered.
 #[derive(Drop)]
 pub(crate) struct Tally {
-    pub opened: u64,
-    pub closed: u64,
-    pub arrived: u64,
-    pub good: u64,
-    pub bad: u64,
-    pub turns: u64,
-    pub bytes: u64,
+    opened: u64,
+    closed: u64,
+    arrived: u64,
+    good: u64,
+    bad: u64,
+    turns: u64,
+    bytes: u64,
+}
+
+impl Model for Tally {
+    ghost Value = { Counts };
+
+    ghost view = { λ t. counts t.opened t.closed t.arrived t.good t.bad t.turns t.bytes };
+
+    ghost invariant = { λ t. Small (counts t.opened t.closed t.arrived t.good t.bad t.turns t.bytes) };
 }
 
 impl Tally {
@@ -35,7 +44,6 @@ impl Tally {
 
     // All records that were counted.
     pub(crate) fn records(&self) -> u64
-        requires { Small self.now }
         ensures { result ≡ all_records self.now }
     {
         self.opened + self.closed + self.arrived + self.good + self.bad + self.turns
@@ -43,10 +51,9 @@ impl Tally {
 
     // Counts one more event.
     pub(crate) fn count(&mut self, event: Event)
-        requires { (Small self.old) × (all_records self.old < 1000000) }
+        requires { all_records self.old < 1000000 }
         ensures after { self.new ≡ counted self.old (contents event.entry) }
         ensures one_more { all_records self.new ≡ all_records self.old + 1 }
-        ensures small { Small self.new }
     {
         match event {
             Event::Open { .. } => self.opened += 1,
@@ -64,13 +71,15 @@ impl Tally {
 
 impl fmt::Display for Tally {
     fn fmt<W: fmt::Write>(&self, f: &mut fmt::Formatter<W>) -> fmt::Result {
-        let opened = self.opened;
-        let closed = self.closed;
-        let arrived = self.arrived;
-        let good = self.good;
-        let bad = self.bad;
-        let turns = self.turns;
-        let bytes = self.bytes;
+        let Tally {
+            opened,
+            closed,
+            arrived,
+            good,
+            bad,
+            turns,
+            bytes,
+        } = self;
         write!(
             f,
             "{opened} O, {closed} C, {arrived} A, {good} G, {bad} B, {turns} T; {bytes} bytes offered"

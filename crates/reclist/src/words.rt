@@ -1,5 +1,5 @@
 // Events and faults in words.
-use answer::{Fault, Layer};
+use answer::Fault;
 use record::Event;
 use std::fmt;
 use tariff::Rate;
@@ -13,9 +13,9 @@ pub(crate) struct InWords<'a> {
 
 impl fmt::Display for InWords<'_> {
     fn fmt<W: fmt::Write>(&self, f: &mut fmt::Formatter<W>) -> fmt::Result {
-        let number = self.number;
+        let InWords { number, event } = *self;
         write!(f, "{number}: ")?;
-        match self.event {
+        match event {
             Event::Open { place, rate, .. } => match Rate::new(rate) {
                 Ok(booked) => write!(
                     f,
@@ -42,7 +42,7 @@ impl fmt::Display for InWords<'_> {
             Event::Turn { .. } => write!(f, "a turn"),
         }?;
         write!(f, " [")?;
-        for b in self.event.note() {
+        for b in event.note() {
             f.write_char(char::from(*b))?;
         }
         write!(f, "]")
@@ -55,16 +55,16 @@ pub(crate) struct Stopped(pub Fault);
 
 impl fmt::Display for Stopped {
     fn fmt<W: fmt::Write>(&self, f: &mut fmt::Formatter<W>) -> fmt::Result {
-        let refusal = self.0.refusal.number();
-        let layer = match self.0.layer {
-            Layer::Record => "record",
-            Layer::Cell => "cell",
-        };
-        let number = self.0.record;
-        let byte = self.0.byte;
+        let Fault {
+            refusal,
+            layer,
+            record,
+            byte,
+        } = self.0;
+        let number = refusal.number();
         write!(
             f,
-            "refusal {refusal}, layer {layer}, record {number}, byte {byte}"
+            "refusal {number}, layer {layer}, record {record}, byte {byte}"
         )
     }
 }

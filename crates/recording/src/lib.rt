@@ -2,21 +2,28 @@
 #![tactic(auto)]
 
 ghost use Rattle.std.specs.Prelude.{◌≤◌, IfOk};
+ghost use Rattle.recording.specs.Taking.{Takes};
 
 use std::io;
 use std::io::Read;
 
+mod records;
+
+pub use records::{Record, Records};
+
 // How many records are read at most, and the bytes that they have.
 pub const RECORDS: u64 = 1_000_000;
 
-pub const BYTES: u64 = 16_000_000;
+pub const BYTES: u64 = 16 * RECORDS;
 
 // Reads until the sixteen bytes are full or the input ends, and says how many there are.
+#[tactic(auto, using(crate::proofs::Taken::taken_more))]
 pub fn fill<R: Read>(reader: &mut R, bytes: &mut [u8; 16]) -> io::Result<usize>
-    ensures { IfOk result (λ n. n ≤ 16) }
+    ensures size { IfOk result (λ n. n ≤ 16) }
+    ensures bytes { IfOk result (Takes (R.remaining reader.old) (R.remaining reader.new) bytes.new) }
 {
     let mut at = 0;
-    for _ in 0..16 {
+    while at < 16 {
         let n = reader.read(&mut bytes[at..16])?;
         if n == 0 {
             break;
@@ -49,7 +56,8 @@ mod tests {
         }
     }
 
-    // No contract can say which bytes an input gives, so it is tested that they come in order and none is left out.
+    // The contract speaks of an input that says which bytes it has. This one does not, so it is tested that they come in
+    // order and none is left out.
     #[test]
     fn one_byte_at_a_time(rt: HostRuntime) -> Result<(), Fail> {
         for (end, full) in [(0, 0), (1, 1), (15, 15), (16, 16), (40, 16)] {

@@ -9,8 +9,7 @@ use Rattle.record.specs.Layout.{Contents, contents}
 use Rattle.record.specs.declared.letter.Letter.{Letter}
 use Rattle.record.specs.declared.letter.Letter.TheVariants.{O, C, A, G, B, T}
 use Rattle.replay.specs.Events.{at_record}
-use Rattle.replay.specs.declared.played.Played.{Played}
-use Rattle.replay.specs.declared.played.Played.TheVariants.{Ended, Asked, Unread}
+use Rattle.replay.specs.declared.asked.Asked.{Asked}
 
 -- the call of a letter, with what the record says
 abbrev pub call_by : Letter → Contents → Call
@@ -24,23 +23,20 @@ call_by T c = turn
 abbrev pub call_in : Contents → Call
 call_in c = call_by c.letter c
 
--- the input has ended, the cell was asked and answered, or there is no record to ask it
-pub data Outcome : Type 0 where
-  ended : Outcome
-  asked : Contents → Result Answer Fault → Outcome
-  unread : Fault → Outcome
-
--- what the code answers, in these terms
-abbrev pub outcome : Played → Outcome
-outcome Ended = ended
-outcome (Asked event result) = asked (contents event) result
-outcome (Unread fault) = unread fault
+-- what the code answers, with an event as its record says it
+abbrev pub outcome : Result (Option Asked) Fault → Result (Option (Contents × Result Answer Fault)) Fault
+outcome (Ok None) = Ok None
+outcome (Ok (Some asked)) = Ok (Some (contents asked.event, asked.result))
+outcome (Err fault) = Err fault
 
 module _ {C : Type 0} (M : Meaning C) (x : Cell C) where
-  abbrev pub outcome_of : ℕ → Result (Option (Contents × List ℕ)) Fault → Outcome
-  outcome_of number (Ok None) = ended
-  outcome_of number (Ok (Some r)) = asked r.0 (at_record number (step M x (call_in r.0)).answer)
-  outcome_of number (Err fault) = unread fault
+  -- none where the input has ended, what the record says and what the cell answers it, or the fault of a record that
+  -- cannot be read
+  abbrev pub outcome_of :
+      ℕ → Result (Option (Contents × List ℕ)) Fault → Result (Option (Contents × Result Answer Fault)) Fault
+  outcome_of number (Ok None) = Ok None
+  outcome_of number (Ok (Some r)) = Ok (Some (r.0, at_record number (step M x (call_in r.0)).answer))
+  outcome_of number (Err fault) = Err fault
 
   -- only a record that was read changes the cell
   abbrev pub cell_after : Result (Option (Contents × List ℕ)) Fault → Cell C

@@ -16,15 +16,12 @@ pub fn apply<C: Chooser>(cell: &mut Cell<C>, event: Event, number: u64) -> Resul
     ensures answer { result ≡ at_record number (step (meant C.Chooser) (view cell.old) (call_of event.entry)).answer }
     ensures after { view cell.new ≡ (step (meant C.Chooser) (view cell.old) (call_of event.entry)).cell }
 {
-    match call(cell, event) {
-        Ok(answer) => Ok(answer),
-        Err(refusal) => Err(Fault {
-            refusal,
-            layer: Layer::Cell,
-            record: number,
-            byte: 0,
-        }),
-    }
+    call(cell, event).map_err(|refusal| Fault {
+        refusal,
+        layer: Layer::Cell,
+        record: number,
+        byte: 0,
+    })
 }
 
 // The same without a record.
@@ -43,7 +40,7 @@ pub fn call<C: Chooser>(cell: &mut Cell<C>, event: Event) -> Result<Answer, Refu
         } => cell.arrive(place, Frame { tag, length })?,
         Event::Good { place, .. } => cell.report(place, true)?,
         Event::Bad { place, .. } => cell.report(place, false)?,
-        Event::Turn { .. } => return Ok(Answer::Turn(cell.turn()?)),
+        Event::Turn { .. } => return cell.turn().map(Answer::Turn),
     }
     Ok(Answer::Done)
 }

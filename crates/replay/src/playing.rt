@@ -5,21 +5,26 @@ ghost use Rattle.model.specs.Meaning.{meant};
 ghost use Rattle.record.specs.Reading.{reading};
 ghost use Rattle.replay.specs.Playing.{cell_after, outcome, outcome_of};
 
+use super::asked::Asked;
 use super::events::apply;
-use super::played::Played;
+use answer::Fault;
 use cell::Cell;
 use chooser::Chooser;
 use record::read;
 
-// Reads the next record of the input, by its number, and makes its call.
-#[tactic(auto, using(crate::proofs::Calls::same_call))]
-pub fn play_record<'a, C: Chooser>(cell: &mut Cell<C>, input: &'a [u8], number: u64) -> Played<'a>
+// Reads the next record of the input, by its number, and makes its call; none where the input has ended. Where no event
+// can be read, the cell is not asked.
+pub fn play_record<'a, C: Chooser>(
+    cell: &mut Cell<C>,
+    input: &'a [u8],
+    number: u64,
+) -> Result<Option<Asked<'a>>, Fault>
     ensures answer { outcome result ≡ outcome_of (meant C.Chooser) (view cell.old) number (reading number input.now) }
     ensures after { view cell.new ≡ cell_after (meant C.Chooser) (view cell.old) (reading number input.now) }
 {
-    match read(input, number) {
-        Ok(None) => Played::Ended,
-        Ok(Some((event, _))) => Played::Asked(event, apply(cell, event, number)),
-        Err(fault) => Played::Unread(fault),
-    }
+    let Some((event, _)) = read(input, number)? else {
+        return Ok(None);
+    };
+    let result = apply(cell, event, number);
+    Ok(Some(Asked { event, result }))
 }

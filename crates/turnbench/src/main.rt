@@ -17,44 +17,32 @@ const LENGTH: u16 = 1_000;
 
 // Every place opens, with two frames.
 fn fill<C: Chooser>(cell: &mut Cell<C>) {
-    for place in 0..64u8 {
+    for place in 0..64 {
         let _ = cell.open(place, RATE);
-        let _ = cell.arrive(
-            place,
-            Frame {
-                tag: 0,
-                length: LENGTH,
-            },
-        );
-        let _ = cell.arrive(
-            place,
-            Frame {
-                tag: 0,
-                length: LENGTH,
-            },
-        );
+        for _ in 0..2 {
+            let _ = cell.arrive(place, frame(0));
+        }
     }
 }
 
 // Whoever sent has a new frame at once.
 fn refill<C: Chooser>(cell: &mut Cell<C>, tag: u32) {
-    if let Ok(turn) = cell.turn() {
-        if let Some(sent) = turn.sent {
-            let _ = cell.arrive(
-                sent.sender,
-                Frame {
-                    tag,
-                    length: LENGTH,
-                },
-            );
-        }
+    if let Ok(turn) = cell.turn()
+        && let Some(sent) = turn.sent
+    {
+        let _ = cell.arrive(sent.sender, frame(tag));
+    }
+}
+
+fn frame(tag: u32) -> Frame {
+    Frame {
+        tag,
+        length: LENGTH,
     }
 }
 
 fn main(rt: HostRuntime) -> io::Result<()> {
-    let Ok(mut cell) = Cell::new(2, LeastServed::new()) else {
-        return Ok(());
-    };
+    let mut cell = Cell::new(2, LeastServed::new()).unwrap();
     fill(&mut cell);
     let start = Instant::now(&rt)?;
     for n in 0..TURNS {

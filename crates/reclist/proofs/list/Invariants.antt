@@ -1,9 +1,8 @@
-use Rattle.std.proofs.Common.{◌≡◌, ◌-◌, length}
-use Rattle.reclist.specs.Tallies.{Small, records}
+use Rattle.std.proofs.Common.{◌≡◌, ◌+◌}
+use Rattle.reclist.specs.Tallies.{records}
 use Rattle.reclist.proofs.list.Given as goal
 
-abbrev pub invariant-loop-bytes : goal.invariant-loop-bytes
-invariant-loop-bytes g l = Small l.tally × (length l.bytes ≡ 16)
-
-abbrev pub decreases-loop-bytes : goal.decreases-loop-bytes
-decreases-loop-bytes g l = 1000000 - records l.tally
+-- the next record to be read is the next to be counted
+abbrev pub invariant-loop-record : goal.invariant-loop-record
+invariant-loop-record g l =
+    (l.record-iterator.numbers.start ≡ records l.tally + 1) × (l.record-iterator.numbers.end ≡ 1000001)
