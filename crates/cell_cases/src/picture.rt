@@ -3,8 +3,9 @@ use cell::{Cell, Standing};
 use chooser::Line;
 use least_served::LeastServed;
 use queue::Frame;
+use std::array;
 
-#[derive(Clone, Copy)]
+#[derive(Clone, Copy, PartialEq, Eq, Debug)]
 pub struct Place {
     session: Option<Standing>,
     frames: [Option<Frame>; 32],
@@ -13,7 +14,7 @@ pub struct Place {
     extra: Option<u64>,
 }
 
-#[derive(Clone, Copy)]
+#[derive(Clone, Copy, PartialEq, Eq, Debug)]
 pub struct Picture {
     places: [Place; 64],
     mark: u64,
@@ -23,63 +24,21 @@ pub struct Picture {
 }
 
 fn look_at(cell: &Cell<LeastServed>, at: u8) -> Place {
-    let mut frames = [None; 32];
-    for i in 0..32usize {
-        frames[i] = match cell.frame(at, i) {
-            Ok(frame) => frame,
-            Err(_) => None,
-        };
-    }
-    let session = match cell.session(at) {
-        Ok(standing) => Some(standing),
-        Err(_) => None,
-    };
     let held = cell.chooser();
     Place {
-        session,
-        frames,
+        session: cell.session(at).ok(),
+        frames: array::from_fn(|i| cell.frame(at, i).ok().flatten()),
         credit: held.count(Line::Credit, usize::from(at)),
         extra: held.count(Line::Extra, usize::from(at)),
     }
 }
 
 pub(crate) fn look(cell: &Cell<LeastServed>) -> Picture {
-    let mut places = [look_at(cell, 0); 64];
-    for at in 1..64u8 {
-        places[usize::from(at)] = look_at(cell, at);
-    }
     Picture {
-        places,
+        places: array::from_fn(|at| look_at(cell, at as u8)),
         mark: cell.mark(),
         booked: cell.booked(),
         turns: cell.turns(),
         keep: cell.keep(),
-    }
-}
-
-impl Place {
-    fn same(&self, other: &Place) -> bool {
-        for i in 0..32usize {
-            if self.frames[i] != other.frames[i] {
-                return false;
-            }
-        }
-        (self.session == other.session)
-            & (self.credit == other.credit)
-            & (self.extra == other.extra)
-    }
-}
-
-impl Picture {
-    pub(crate) fn same(&self, other: &Picture) -> bool {
-        for i in 0..64usize {
-            if !self.places[i].same(&other.places[i]) {
-                return false;
-            }
-        }
-        (self.mark == other.mark)
-            & (self.booked == other.booked)
-            & (self.turns == other.turns)
-            & (self.keep == other.keep)
     }
 }

@@ -1,18 +1,19 @@
 // Calls, refusals and questions.
 use super::picture::look;
 use answer::Refusal;
-use cell::Cell;
+use cell::{Cell, Standing};
 use chooser::{Chooser, Line};
 use least_served::LeastServed;
 use queue::Frame;
 use std::process::Abort;
 use std::test::Fail;
 
+fn made(keep: u8, chooser: LeastServed) -> Result<Cell<LeastServed>, Fail> {
+    Cell::new(keep, chooser).map_err(|_| Fail::new("no cell"))
+}
+
 fn new() -> Result<Cell<LeastServed>, Fail> {
-    match Cell::new(2, LeastServed::new()) {
-        Ok(cell) => Ok(cell),
-        Err(_) => Err(Fail::new("no cell")),
-    }
+    made(2, LeastServed::new())
 }
 
 fn frame(tag: u32, length: u16) -> Frame {
@@ -28,40 +29,17 @@ fn filled(cell: &mut Cell<LeastServed>, place: u8, frames: u32) -> Result<(), Fa
 }
 
 // A call that is refused, and leaves all that can be asked as it was.
-fn refused(
+fn refused<T: Drop, F: FnOnce(&mut Cell<LeastServed>) -> Result<T, Refusal>>(
     rt: &impl Abort,
     cell: &mut Cell<LeastServed>,
-    call: Call,
+    call: F,
     number: u8,
-) -> Result<(), Fail> {
+)
+    requires { F.IsAlwaysCallable call }
+{
     let before = look(cell);
-    let answer = match call {
-        Call::Open(place, rate) => cell.open(place, rate),
-        Call::Close(place) => cell.close(place),
-        Call::Arrive(place, length) => cell.arrive(place, frame(9, length)),
-        Call::Report(place, good) => cell.report(place, good),
-        Call::Turn => match cell.turn() {
-            Ok(_) => Ok(()),
-            Err(why) => Err(why),
-        },
-    };
-    match answer {
-        Ok(()) => Err(Fail::new("not refused")),
-        Err(why) => {
-            assert_eq!(rt; why.number(), number);
-            assert!(rt; look(cell).same(&before));
-            Ok(())
-        }
-    }
-}
-
-#[derive(Clone, Copy)]
-enum Call {
-    Open(u8, u32),
-    Close(u8),
-    Arrive(u8, u16),
-    Report(u8, bool),
-    Turn,
+    assert_eq!(rt; call(cell).err().map(Refusal::number), Some(number));
+    assert_eq!(rt; look(cell), before);
 }
 
 #[test]
@@ -71,11 +49,11 @@ fn places_and_rates(rt: HostRuntime) -> Result<(), Fail> {
     let session = cell.session(63)?;
     assert_eq!(rt; session.rate, 7);
     assert_eq!(rt; session.price, 102_960);
-    refused(&rt, &mut cell, Call::Open(64, 7), 5)?;
-    refused(&rt, &mut cell, Call::Open(255, 17), 5)?;
-    refused(&rt, &mut cell, Call::Open(0, 17), 8)?;
-    refused(&rt, &mut cell, Call::Open(0, 0), 8)?;
-    refused(&rt, &mut cell, Call::Open(63, 17), 6)?;
+    refused(&rt, &mut cell, |cell| cell.open(64, 7), 5);
+    refused(&rt, &mut cell, |cell| cell.open(255, 17), 5);
+    refused(&rt, &mut cell, |cell| cell.open(0, 17), 8);
+    refused(&rt, &mut cell, |cell| cell.open(0, 0), 8);
+    refused(&rt, &mut cell, |cell| cell.open(63, 17), 6);
     assert_eq!(rt; cell.booked(), 7);
     Ok(())
 }
@@ -84,14 +62,14 @@ fn places_and_rates(rt: HostRuntime) -> Result<(), Fail> {
 fn the_whole_link(rt: HostRuntime) -> Result<(), Fail> {
     let mut cell = new()?;
     cell.open(0, 720_720)?;
-    refused(&rt, &mut cell, Call::Open(1, 1), 9)?;
-    refused(&rt, &mut cell, Call::Open(1, 17), 8)?;
+    refused(&rt, &mut cell, |cell| cell.open(1, 1), 9);
+    refused(&rt, &mut cell, |cell| cell.open(1, 17), 8);
     assert_eq!(rt; cell.booked(), 720_720);
     cell.close(0)?;
     assert_eq!(rt; cell.booked(), 0);
     cell.open(1, 360_360)?;
     cell.open(2, 360_360)?;
-    refused(&rt, &mut cell, Call::Open(0, 1), 9)?;
+    refused(&rt, &mut cell, |cell| cell.open(0, 1), 9);
     assert_eq!(rt; cell.booked(), 720_720);
     Ok(())
 }
@@ -100,9 +78,9 @@ fn the_whole_link(rt: HostRuntime) -> Result<(), Fail> {
 fn lengths(rt: HostRuntime) -> Result<(), Fail> {
     let mut cell = new()?;
     cell.open(5, 1)?;
-    refused(&rt, &mut cell, Call::Arrive(5, 0), 12)?;
-    refused(&rt, &mut cell, Call::Arrive(5, 1_537), 12)?;
-    refused(&rt, &mut cell, Call::Arrive(5, 65_535), 12)?;
+    refused(&rt, &mut cell, |cell| cell.arrive(5, frame(9, 0)), 12);
+    refused(&rt, &mut cell, |cell| cell.arrive(5, frame(9, 1_537)), 12);
+    refused(&rt, &mut cell, |cell| cell.arrive(5, frame(9, 65_535)), 12);
     cell.arrive(5, frame(1, 1))?;
     cell.arrive(5, frame(2, 1_536))?;
     assert_eq!(rt; cell.session(5)?.waiting, 2);
@@ -117,8 +95,8 @@ fn the_thirty_third_frame(rt: HostRuntime) -> Result<(), Fail> {
     let mut cell = new()?;
     cell.open(0, 2)?;
     filled(&mut cell, 0, 32)?;
-    refused(&rt, &mut cell, Call::Arrive(0, 100), 13)?;
-    refused(&rt, &mut cell, Call::Arrive(0, 0), 12)?;
+    refused(&rt, &mut cell, |cell| cell.arrive(0, frame(9, 100)), 13);
+    refused(&rt, &mut cell, |cell| cell.arrive(0, frame(9, 0)), 12);
     assert_eq!(rt; cell.session(0)?.waiting, 32);
     assert_eq!(rt; cell.frame(0, 0)?, Some(frame(0, 100)));
     assert_eq!(rt; cell.frame(0, 31)?, Some(frame(31, 100)));
@@ -130,9 +108,9 @@ fn the_thirty_third_frame(rt: HostRuntime) -> Result<(), Fail> {
 fn no_such_place(rt: HostRuntime) -> Result<(), Fail> {
     let mut cell = new()?;
     cell.open(0, 1)?;
-    refused(&rt, &mut cell, Call::Close(64), 5)?;
-    refused(&rt, &mut cell, Call::Arrive(64, 0), 5)?;
-    refused(&rt, &mut cell, Call::Report(64, true), 5)?;
+    refused(&rt, &mut cell, |cell| cell.close(64), 5);
+    refused(&rt, &mut cell, |cell| cell.arrive(64, frame(9, 0)), 5);
+    refused(&rt, &mut cell, |cell| cell.report(64, true), 5);
     assert_eq!(rt; cell.session(64), Err(Refusal::PlaceTooHigh));
     assert_eq!(rt; cell.frame(255, 0), Err(Refusal::PlaceTooHigh));
     Ok(())
@@ -142,9 +120,9 @@ fn no_such_place(rt: HostRuntime) -> Result<(), Fail> {
 fn nobody_there(rt: HostRuntime) -> Result<(), Fail> {
     let mut cell = new()?;
     cell.open(0, 1)?;
-    refused(&rt, &mut cell, Call::Close(63), 7)?;
-    refused(&rt, &mut cell, Call::Arrive(1, 0), 7)?;
-    refused(&rt, &mut cell, Call::Report(1, false), 7)?;
+    refused(&rt, &mut cell, |cell| cell.close(63), 7);
+    refused(&rt, &mut cell, |cell| cell.arrive(1, frame(9, 0)), 7);
+    refused(&rt, &mut cell, |cell| cell.report(1, false), 7);
     assert_eq!(rt; cell.session(1), Err(Refusal::PlaceNotOpen));
     assert_eq!(rt; cell.frame(1, 0), Err(Refusal::PlaceNotOpen));
     Ok(())
@@ -154,14 +132,17 @@ fn nobody_there(rt: HostRuntime) -> Result<(), Fail> {
 fn a_fresh_session(rt: HostRuntime) -> Result<(), Fail> {
     let mut cell = new()?;
     cell.open(7, 240)?;
-    let session = cell.session(7)?;
-    assert_eq!(rt; session.price, 3_003);
-    assert_eq!(rt; session.virtual_time, 0);
-    assert_eq!(rt; session.lag, 0);
-    assert_eq!(rt; session.allowance, 0);
-    assert!(rt; session.good);
-    assert!(rt; !session.active);
-    assert_eq!(rt; session.waiting, 0);
+    let fresh = Standing {
+        rate: 240,
+        price: 3_003,
+        virtual_time: 0,
+        lag: 0,
+        allowance: 0,
+        good: true,
+        active: false,
+        waiting: 0,
+    };
+    assert_eq!(rt; cell.session(7)?, fresh);
     assert_eq!(rt; cell.mark(), 0);
     assert_eq!(rt; cell.turns(), 0);
     assert_eq!(rt; cell.keep(), 2);
@@ -174,7 +155,7 @@ fn an_active_session_stays(rt: HostRuntime) -> Result<(), Fail> {
     cell.open(3, 1)?;
     cell.arrive(3, frame(1, 10))?;
     assert!(rt; cell.session(3)?.active);
-    refused(&rt, &mut cell, Call::Close(3), 10)?;
+    refused(&rt, &mut cell, |cell| cell.close(3), 10);
     assert_eq!(rt; cell.session(3)?.waiting, 1);
     Ok(())
 }
@@ -185,8 +166,8 @@ fn closed_and_opened_again(rt: HostRuntime) -> Result<(), Fail> {
     cell.open(0, 12)?;
     cell.report(0, false)?;
     cell.close(0)?;
-    refused(&rt, &mut cell, Call::Close(0), 7)?;
-    refused(&rt, &mut cell, Call::Arrive(0, 1), 7)?;
+    refused(&rt, &mut cell, |cell| cell.close(0), 7);
+    refused(&rt, &mut cell, |cell| cell.arrive(0, frame(9, 1)), 7);
     cell.open(0, 13)?;
     let session = cell.session(0)?;
     assert_eq!(rt; session.rate, 13);
@@ -236,10 +217,8 @@ fn opening_clears_the_chooser(rt: HostRuntime) -> Result<(), Fail> {
     served.served(Line::Extra, 4, 100, 2);
     served.served(Line::Credit, 4, 10, 3);
     served.served(Line::Extra, 5, 7, 1);
-    let Ok(mut cell) = Cell::new(0, served) else {
-        return Err(Fail::new("no cell"));
-    };
-    refused(&rt, &mut cell, Call::Open(4, 17), 8)?;
+    let mut cell = made(0, served)?;
+    refused(&rt, &mut cell, |cell| cell.open(4, 17), 8);
     assert_eq!(rt; cell.chooser().count(Line::Extra, 4), Some(200));
     cell.open(4, 1)?;
     assert_eq!(rt; cell.chooser().count(Line::Extra, 4), Some(0));
@@ -250,20 +229,16 @@ fn opening_clears_the_chooser(rt: HostRuntime) -> Result<(), Fail> {
 
 #[test]
 fn keeps(rt: HostRuntime) -> Result<(), Fail> {
-    let Ok(cell) = Cell::new(4, LeastServed::new()) else {
-        return Err(Fail::new("keep 4"));
-    };
+    let cell = made(4, LeastServed::new())?;
     assert_eq!(rt; cell.keep(), 4);
     let mut served = LeastServed::new();
     served.served(Line::Credit, 1, 3, 1);
-    match Cell::new(5, served) {
-        Ok(_) => Err(Fail::new("keep 5")),
-        Err(unmade) => {
-            assert_eq!(rt; unmade.why, Refusal::KeepTooHigh);
-            assert_eq!(rt; unmade.chooser.count(Line::Credit, 1), Some(3));
-            Ok(())
-        }
-    }
+    let Err(unmade) = Cell::new(5, served) else {
+        return Err(Fail::new("keep 5"));
+    };
+    assert_eq!(rt; unmade.why, Refusal::KeepTooHigh);
+    assert_eq!(rt; unmade.chooser.count(Line::Credit, 1), Some(3));
+    Ok(())
 }
 
 #[test]
@@ -278,11 +253,12 @@ fn ahead_of_the_mark(rt: HostRuntime) -> Result<(), Fail> {
     assert!(rt; !session.active);
     assert_eq!(rt; session.virtual_time, 200);
     assert_eq!(rt; cell.mark(), 0);
-    refused(&rt, &mut cell, Call::Close(0), 11)?;
+    refused(&rt, &mut cell, |cell| cell.close(0), 11);
     cell.turn()?;
     assert_eq!(rt; cell.mark(), 300);
     cell.close(0)?;
-    refused(&rt, &mut cell, Call::Turn, 14)
+    refused(&rt, &mut cell, |cell| cell.turn(), 14);
+    Ok(())
 }
 
 #[test]

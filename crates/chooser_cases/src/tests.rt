@@ -4,38 +4,23 @@ use chooser::{Chooser, Line, Offer};
 use keys::{Count, Debt, VirtualTime, least};
 use largest_debt::LargestDebt;
 use least_served::LeastServed;
+use std::array;
 use std::process::Abort;
 use std::test::Fail;
 use tariff::Rate;
 
-fn rate(units: u32) -> Result<Rate, Fail> {
-    match Rate::new(units) {
-        Ok(rate) => Ok(rate),
-        Err(_) => Err(Fail::new("not in the tariff")),
-    }
-}
-
-// Two places, each with its lag and its rate.
-fn two(
-    low: usize,
-    lag: i64,
-    units: u32,
-    high: usize,
-    lag2: i64,
-    units2: u32,
-) -> Result<Offer, Fail> {
+// An offer of these places, each with its lag and its rate.
+fn offering(places: &[(usize, i64, u32)]) -> Result<Offer, Fail> {
     let mut offer = Offer::none();
-    offer.put(low, lag, rate(units)?);
-    offer.put(high, lag2, rate(units2)?);
+    for &(place, lag, units) in places {
+        offer.put(place, lag, Rate::new(units)?);
+    }
     Ok(offer)
 }
 
 fn full() -> Result<Offer, Fail> {
-    let mut offer = Offer::none();
-    for place in 0..64 {
-        offer.put(place, 1, rate(1)?);
-    }
-    Ok(offer)
+    let places: [_; 64] = array::from_fn(|place| (place, 1, 1));
+    offering(&places)
 }
 
 // What every chooser picks that has been told nothing.
@@ -47,8 +32,7 @@ fn picks_the_lowest<C: Chooser + Drop>(rt: &impl Abort, chooser: C) -> Result<()
     let all = full()?;
     assert_eq!(rt; holder.peek(Line::Credit, &all), Some(0));
     assert_eq!(rt; holder.peek(Line::Extra, &without(&all, 0)), Some(1));
-    let mut last = Offer::none();
-    last.put(63, 5, rate(7)?);
+    let last = offering(&[(63, 5, 7)])?;
     assert_eq!(rt; holder.peek(Line::Credit, &last), Some(63));
     assert_eq!(rt; holder.peek(Line::Credit, &without(&last, 63)), None);
     assert_eq!(rt; holder.peek(Line::Credit, &without(&last, 64)), Some(63));
@@ -82,13 +66,13 @@ fn every_chooser_picks_the_lowest(rt: HostRuntime) -> Result<(), Fail> {
 #[test]
 fn offers_take_what_is_sound(rt: HostRuntime) -> Result<(), Fail> {
     let mut offer = Offer::none();
-    offer.put(64, 1, rate(1)?);
-    offer.put(3, 3_072_000_000_001, rate(1)?);
-    offer.put(3, -3_072_000_000_001, rate(1)?);
+    offer.put(64, 1, Rate::new(1)?);
+    offer.put(3, 3_072_000_000_001, Rate::new(1)?);
+    offer.put(3, -3_072_000_000_001, Rate::new(1)?);
     for place in 0..64 {
         assert!(rt; !offer.offers(place));
     }
-    offer.put(3, -3_072_000_000_000, rate(7)?);
+    offer.put(3, -3_072_000_000_000, Rate::new(7)?);
     assert!(rt; offer.offers(3) && !offer.offers(64) && !offer.offers(67));
     let entry = offer.at(3).ok_or("no entry")?;
     assert!(rt; entry.lag == -3_072_000_000_000 && entry.rate == 7 && entry.price == 102_960);
@@ -101,16 +85,16 @@ fn offers_take_what_is_sound(rt: HostRuntime) -> Result<(), Fail> {
 #[test]
 fn equal_debts_tie(rt: HostRuntime) -> Result<(), Fail> {
     assert_eq!(rt;
-        LargestDebt.ask(Line::Credit, &two(3, 10, 20, 5, 9, 18)?),
+        LargestDebt.ask(Line::Credit, &offering(&[(3, 10, 20), (5, 9, 18)])?),
         Some(3)
     );
     assert_eq!(rt;
-        LargestDebt.ask(Line::Credit, &two(3, 9, 18, 5, 10, 20)?),
+        LargestDebt.ask(Line::Credit, &offering(&[(3, 9, 18), (5, 10, 20)])?),
         Some(3)
     );
     // a byte more is a larger debt
     assert_eq!(rt;
-        LargestDebt.ask(Line::Credit, &two(3, 9, 18, 5, 11, 20)?),
+        LargestDebt.ask(Line::Credit, &offering(&[(3, 9, 18), (5, 11, 20)])?),
         Some(5)
     );
     Ok(())
@@ -119,25 +103,25 @@ fn equal_debts_tie(rt: HostRuntime) -> Result<(), Fail> {
 #[test]
 fn a_lag_weighs_more_at_a_lower_rate(rt: HostRuntime) -> Result<(), Fail> {
     assert_eq!(rt;
-        LargestDebt.ask(Line::Credit, &two(2, 10, 20, 40, 10, 18)?),
+        LargestDebt.ask(Line::Credit, &offering(&[(2, 10, 20), (40, 10, 18)])?),
         Some(40)
     );
     assert_eq!(rt;
-        LargestDebt.ask(Line::Extra, &two(2, -10, 20, 40, -10, 18)?),
+        LargestDebt.ask(Line::Extra, &offering(&[(2, -10, 20), (40, -10, 18)])?),
         Some(2)
     );
     assert_eq!(rt;
-        LargestDebt.ask(Line::Extra, &two(2, -10, 20, 40, 0, 18)?),
+        LargestDebt.ask(Line::Extra, &offering(&[(2, -10, 20), (40, 0, 18)])?),
         Some(40)
     );
-    let far = two(0, -3_072_000_000_000, 1, 63, 3_072_000_000_000, 1)?;
+    let far = offering(&[(0, -3_072_000_000_000, 1), (63, 3_072_000_000_000, 1)])?;
     assert_eq!(rt; LargestDebt.ask(Line::Credit, &far), Some(63));
     Ok(())
 }
 
 #[test]
 fn largest_debt_ignores_tellings(rt: HostRuntime) -> Result<(), Fail> {
-    let offer = two(3, 10, 20, 5, 9, 18)?;
+    let offer = offering(&[(3, 10, 20), (5, 9, 18)])?;
     let mut debt = LargestDebt;
     debt.served(Line::Credit, 3, 1_536, 36_036);
     debt.joined(Line::Credit, 5, &offer);
@@ -148,7 +132,7 @@ fn largest_debt_ignores_tellings(rt: HostRuntime) -> Result<(), Fail> {
 
 #[test]
 fn servings_count_by_list(rt: HostRuntime) -> Result<(), Fail> {
-    let offer = two(3, 10, 20, 5, 9, 18)?;
+    let offer = offering(&[(3, 10, 20), (5, 9, 18)])?;
     let mut least = LeastServed::new();
     assert_eq!(rt; least.ask(Line::Credit, &offer), Some(3));
     least.served(Line::Credit, 3, 100, 36_036);
@@ -168,7 +152,7 @@ fn servings_count_by_list(rt: HostRuntime) -> Result<(), Fail> {
 
 #[test]
 fn tellings_out_of_range_do_nothing(rt: HostRuntime) -> Result<(), Fail> {
-    let offer = two(3, 10, 20, 5, 9, 18)?;
+    let offer = offering(&[(3, 10, 20), (5, 9, 18)])?;
     let mut least = LeastServed::new();
     least.served(Line::Credit, 3, 100, 36_036);
     least.served(Line::Credit, 5, 100, 40_040);
@@ -191,7 +175,7 @@ fn tellings_out_of_range_do_nothing(rt: HostRuntime) -> Result<(), Fail> {
 
 #[test]
 fn a_joiner_is_raised_to_the_smallest(rt: HostRuntime) -> Result<(), Fail> {
-    let offer = two(3, 10, 20, 5, 9, 18)?;
+    let offer = offering(&[(3, 10, 20), (5, 9, 18)])?;
     let mut least = LeastServed::new();
     least.served(Line::Credit, 3, 100, 2);
     least.served(Line::Credit, 5, 100, 3);
@@ -217,7 +201,7 @@ fn a_joiner_is_raised_to_the_smallest(rt: HostRuntime) -> Result<(), Fail> {
 
 #[test]
 fn a_holder_serves_in_turn(rt: HostRuntime) -> Result<(), Fail> {
-    let offer = two(3, 10, 20, 5, 9, 18)?;
+    let offer = offering(&[(3, 10, 20), (5, 9, 18)])?;
     let mut holder = Holder::new(LeastServed::new());
     assert_eq!(rt; holder.serve(Line::Credit, &offer, 100), Some(3));
     assert_eq!(rt; holder.serve(Line::Credit, &offer, 100), Some(5));

@@ -1,64 +1,110 @@
 // Reading: every letter, every fault, at every byte.
-use super::samples::{RECORDS, UNUSED, fault_in, fault_with, same};
-use record::{Event, read};
+ghost use Rattle.std.specs.Prelude.{◌<◌};
+
+use super::samples::{ARRIVE, BAD, CLOSE, GOOD, OPEN, RECORDS, TURN, fault};
+use answer::{Fault, Refusal};
+use record::{Event, Letter, read};
 use std::test::Fail;
 
-// Letter, place, length, value and note of the first record, and how much follows it.
-fn parts(input: &[u8]) -> Option<(u8, u8, u16, u32, &[u8], usize)> {
-    match read(input, 1) {
-        Ok(Some((event, rest))) => Some(match event {
-            Event::Open { place, rate, note } => (b'O', place, 0, rate, note, rest.len()),
-            Event::Close { place, note } => (b'C', place, 0, 0, note, rest.len()),
-            Event::Arrive {
-                place,
-                length,
-                tag,
-                note,
-            } => (b'A', place, length, tag, note, rest.len()),
-            Event::Good { place, note } => (b'G', place, 0, 0, note, rest.len()),
-            Event::Bad { place, note } => (b'B', place, 0, 0, note, rest.len()),
-            Event::Turn { note } => (b'T', 0, 0, 0, note, rest.len()),
-        }),
-        _ => None,
-    }
+// The fault that reading gives, if it gives one.
+fn fault_in(input: &[u8], number: u64) -> Option<Fault> {
+    read(input, number).err()
+}
+
+// The same with another byte at a place.
+fn fault_with(mut record: [u8; 16], at: usize, byte: u8, number: u64) -> Option<Fault>
+    requires { at < 16 }
+{
+    record[at] = byte;
+    fault_in(&record, number)
 }
 
 #[test]
-fn empty_input_has_no_record() -> Result<(), Fail> {
-    match read(b"", 1) {
-        Ok(None) => Ok(()),
-        _ => Err(Fail::new("something was read")),
-    }
-}
-
-#[test]
-fn every_letter_is_read(rt: HostRuntime) -> Result<(), Fail> {
-    let expected: [(u8, u8, u16, u32, &[u8]); 6] = [
-        (b'O', 63, 0, 720_720, b"hall 7 E"),
-        (b'C', 255, 0, 0, b"closed.."),
-        (b'A', 5, 1536, 4_294_967_295, b"caption "),
-        (b'G', 0, 0, 0, b"        "),
-        (b'B', 1, 0, 0, b"~~~~~~~~"),
-        (b'T', 0, 0, 0, b"--------"),
-    ];
-    for i in 0..6 {
-        let (letter, place, length, value, note) = expected[i];
-        let read = parts(&RECORDS[i]).ok_or("refused")?;
-        assert_eq!(rt;
-            (read.0, read.1, read.2, read.3, read.5),
-            (letter, place, length, value, 0)
-        );
-        same(&rt, read.4, note);
-    }
+fn empty_input_has_no_record(rt: HostRuntime) -> Result<(), Fail> {
+    assert!(rt; read(b"", 1)?.is_none());
     Ok(())
+}
+
+#[test]
+fn every_letter_is_read(rt: HostRuntime) {
+    assert!(rt;
+        matches!(
+            read(&OPEN, 1),
+            Ok(Some((
+                Event::Open {
+                    place: 63,
+                    rate: 720_720,
+                    note: b"hall 7 E"
+                },
+                []
+            )))
+        )
+    );
+    assert!(rt;
+        matches!(
+            read(&CLOSE, 1),
+            Ok(Some((
+                Event::Close {
+                    place: 255,
+                    note: b"closed.."
+                },
+                []
+            )))
+        )
+    );
+    assert!(rt;
+        matches!(
+            read(&ARRIVE, 1),
+            Ok(Some((
+                Event::Arrive {
+                    place: 5,
+                    length: 1536,
+                    tag: 4_294_967_295,
+                    note: b"caption "
+                },
+                []
+            )))
+        )
+    );
+    assert!(rt;
+        matches!(
+            read(&GOOD, 1),
+            Ok(Some((
+                Event::Good {
+                    place: 0,
+                    note: b"        "
+                },
+                []
+            )))
+        )
+    );
+    assert!(rt;
+        matches!(
+            read(&BAD, 1),
+            Ok(Some((
+                Event::Bad {
+                    place: 1,
+                    note: b"~~~~~~~~"
+                },
+                []
+            )))
+        )
+    );
+    assert!(rt;
+        matches!(
+            read(&TURN, 1),
+            Ok(Some((Event::Turn { note: b"--------" }, [])))
+        )
+    );
 }
 
 #[test]
 fn bytes_past_the_record_follow_it(rt: HostRuntime) -> Result<(), Fail> {
     let mut input = [b'?'; 39];
-    input[0..16].copy_from_slice(&RECORDS[2]);
-    let read = parts(&input).ok_or("refused")?;
-    assert_eq!(rt; (read.0, read.5), (b'A', 23));
+    input[..16].copy_from_slice(&ARRIVE);
+    let (event, rest) = read(&input, 1)?.ok_or("no record")?;
+    assert_eq!(rt; event.letter(), Letter::A);
+    assert_eq!(rt; rest, [b'?'; 23].as_slice());
     Ok(())
 }
 
@@ -66,36 +112,41 @@ fn bytes_past_the_record_follow_it(rt: HostRuntime) -> Result<(), Fail> {
 fn a_fragment_of_any_length_is_truncated(rt: HostRuntime) {
     for record in RECORDS {
         for n in 1..16 {
-            assert_eq!(rt; fault_in(&record[0..n], 9), Some((1, 9, n)));
+            let expected = fault(Refusal::TruncatedRecord, 9, n);
+            assert_eq!(rt; fault_in(&record[..n], 9), Some(expected));
         }
     }
     // whatever it begins with
-    assert_eq!(rt; fault_in(b"?", 1_000_000), Some((1, 1_000_000, 1)));
+    let expected = fault(Refusal::TruncatedRecord, 1_000_000, 1);
+    assert_eq!(rt; fault_in(b"?", 1_000_000), Some(expected));
 }
 
 #[test]
 fn any_other_letter_is_unknown(rt: HostRuntime) {
     for b in 0..=255u8 {
-        let known = match b {
-            b'O' | b'C' | b'A' | b'G' | b'B' | b'T' => true,
-            _ => false,
-        };
-        let expected = if known { None } else { Some((2, 2, 0)) };
-        assert_eq!(rt; fault_with(RECORDS[5], 0, b, 2), expected);
+        let known = matches!(b, b'O' | b'C' | b'A' | b'G' | b'B' | b'T');
+        let expected = (!known).then_some(fault(Refusal::UnknownLetter, 2, 0));
+        assert_eq!(rt; fault_with(TURN, 0, b, 2), expected);
     }
 }
 
 #[test]
 fn an_unused_byte_has_to_be_zero(rt: HostRuntime) {
-    for i in 0..6 {
+    // the bytes that each record leaves unused
+    let unused = [
+        (OPEN, 2..4),
+        (CLOSE, 2..8),
+        (ARRIVE, 8..8),
+        (GOOD, 2..8),
+        (BAD, 2..8),
+        (TURN, 1..8),
+    ];
+    for (record, unused) in unused {
         for at in 1..8 {
-            for b in [1u8, 32, 255] {
-                let expected = if UNUSED[i][at] {
-                    Some((3, 4, at))
-                } else {
-                    None
-                };
-                assert_eq!(rt; fault_with(RECORDS[i], at, b, 4), expected);
+            for b in [1, 32, 255] {
+                let refused = fault(Refusal::UnusedByteNotZero, 4, at);
+                let expected = unused.contains(&at).then_some(refused);
+                assert_eq!(rt; fault_with(record, at, b, 4), expected);
             }
         }
     }
@@ -106,7 +157,7 @@ fn a_note_is_printable(rt: HostRuntime) {
     for record in RECORDS {
         for at in 8..16 {
             for (b, good) in [
-                (0u8, false),
+                (0, false),
                 (31, false),
                 (32, true),
                 (126, true),
@@ -114,7 +165,7 @@ fn a_note_is_printable(rt: HostRuntime) {
                 (128, false),
                 (255, false),
             ] {
-                let expected = if good { None } else { Some((4, 5, at)) };
+                let expected = (!good).then_some(fault(Refusal::NoteNotPrintable, 5, at));
                 assert_eq!(rt; fault_with(record, at, b, 5), expected);
             }
         }
@@ -122,20 +173,23 @@ fn a_note_is_printable(rt: HostRuntime) {
 }
 
 #[test]
-fn the_first_fault_is_named(rt: HostRuntime) -> Result<(), Fail> {
+fn the_first_fault_is_named(rt: HostRuntime) {
     // every byte wrong, and one thing after the other put right
     let mut bytes = [255u8; 16];
-    assert_eq!(rt; fault_in(&bytes[0..15], 6), Some((1, 6, 15)));
-    assert_eq!(rt; fault_in(&bytes, 6), Some((2, 6, 0)));
+    let expected = fault(Refusal::TruncatedRecord, 6, 15);
+    assert_eq!(rt; fault_in(&bytes[..15], 6), Some(expected));
+    let expected = fault(Refusal::UnknownLetter, 6, 0);
+    assert_eq!(rt; fault_in(&bytes, 6), Some(expected));
     bytes[0] = b'T';
     for at in 1..8 {
-        assert_eq!(rt; fault_in(&bytes, 6), Some((3, 6, at)));
+        let expected = fault(Refusal::UnusedByteNotZero, 6, at);
+        assert_eq!(rt; fault_in(&bytes, 6), Some(expected));
         bytes[at] = 0;
     }
     for at in 8..16 {
-        assert_eq!(rt; fault_in(&bytes, 6), Some((4, 6, at)));
+        let expected = fault(Refusal::NoteNotPrintable, 6, at);
+        assert_eq!(rt; fault_in(&bytes, 6), Some(expected));
         bytes[at] = b' ';
     }
     assert_eq!(rt; fault_in(&bytes, 6), None);
-    Ok(())
 }

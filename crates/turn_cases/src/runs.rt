@@ -1,55 +1,30 @@
 // Playing a run, and comparing its turns and its accounts.
-use super::tables::{Account, Given, Step};
-use answer::{Kind, Refusal, Turn};
+use super::tables::{Account, Given, Outcome, Step};
+use answer::{Kind, Refusal, Sent, Turn};
 use cell::Cell;
 use chooser::Chooser;
 use queue::Frame;
 use std::process::Abort;
 use std::test::Fail;
 
-fn letter(kind: Kind) -> char {
-    match kind {
-        Kind::Normal => 'n',
-        Kind::Credit => 'c',
-        Kind::Kept => 'k',
-        Kind::Extra => 'x',
-        Kind::Idle => 'i',
-    }
-}
-
-// A turn, or the number of its refusal, as the tables have it.
-fn given(res: Result<Turn, Refusal>) -> Given {
-    match res {
-        Ok(turn) => match turn.sent {
-            Some(sent) => (
-                turn.chosen,
-                sent.sender,
-                sent.tag,
-                turn.length,
-                letter(turn.kind),
-            ),
-            None => (turn.chosen, 64, 0, turn.length, letter(turn.kind)),
-        },
-        Err(why) => (255, 255, 0, u16::from(why.number()), 'E'),
-    }
-}
-
-// A call other than a turn.
-fn call<C: Chooser>(cell: &mut Cell<C>, step: Step) -> Result<(), Refusal> {
-    match step {
-        Step::Open(place, rate) => cell.open(place, rate),
-        Step::Close(place) => cell.close(place),
-        Step::Arrive(place, tag, length) => cell.arrive(place, Frame { tag, length }),
-        Step::Good(place) => cell.report(place, true),
-        Step::Bad(place) => cell.report(place, false),
-        Step::Turn => Ok(()),
-    }
-}
-
-fn accepted(res: Result<(), Refusal>) -> Result<(), Fail> {
-    match res {
-        Ok(()) => Ok(()),
-        Err(_) => Err(Fail::new("refused")),
+impl Given {
+    // The answer of a cell that says it.
+    fn answer(self) -> Result<Turn, Refusal> {
+        match self {
+            Given::Sent(chosen, sender, tag, length, kind) => Ok(Turn {
+                chosen,
+                sent: Some(Sent { sender, tag }),
+                length,
+                kind,
+            }),
+            Given::Nobody(chosen, length) => Ok(Turn {
+                chosen,
+                sent: None,
+                length,
+                kind: Kind::Idle,
+            }),
+            Given::Refused(why) => Err(why),
+        }
     }
 }
 
@@ -59,30 +34,28 @@ pub(crate) fn play<C: Chooser>(
     steps: &[Step],
     turns: &[Given],
 ) -> Result<(), Fail> {
-    let mut next: usize = 0;
+    let mut answers = turns.iter().copied().map(Given::answer);
     for step in steps {
         match *step {
-            Step::Turn => {
-                assert!(rt; next < turns.len());
-                assert_eq!(rt; given(cell.turn()), turns[next]);
-                next += 1;
-            }
-            other => accepted(call(cell, other))?,
+            Step::Open(place, rate) => cell.open(place, rate)?,
+            Step::Close(place) => cell.close(place)?,
+            Step::Arrive(place, tag, length) => cell.arrive(place, Frame { tag, length })?,
+            Step::Good(place) => cell.report(place, true)?,
+            Step::Bad(place) => cell.report(place, false)?,
+            Step::Turn => assert_eq!(rt; Some(cell.turn()), answers.next()),
         }
     }
-    assert_eq!(rt; next, turns.len());
+    assert_eq!(rt; answers.next(), None);
     Ok(())
 }
 
 pub(crate) fn stand<C>(rt: &impl Abort, cell: &Cell<C>, accounts: &[Account]) -> Result<(), Fail> {
-    for account in accounts {
-        match cell.session(account.0) {
-            Ok(s) => assert_eq!(rt;
-                (account.0, s.virtual_time, s.lag, s.allowance, s.waiting),
-                *account
-            ),
-            Err(_) => return Err(Fail::new("not open")),
-        }
+    for &(place, virtual_time, lag, allowance, waiting) in accounts {
+        let session = cell.session(place)?;
+        assert_eq!(rt; session.virtual_time, virtual_time);
+        assert_eq!(rt; session.lag, lag);
+        assert_eq!(rt; session.allowance, allowance);
+        assert_eq!(rt; session.waiting, waiting);
     }
     Ok(())
 }
@@ -93,15 +66,11 @@ pub(crate) fn run<C: Chooser + Drop>(
     keep: u8,
     chooser: C,
     steps: &[Step],
-    turns: &[Given],
-    accounts: &[Account],
-    mark: u64,
+    outcome: &Outcome,
 ) -> Result<(), Fail> {
-    let Ok(mut cell) = Cell::new(keep, chooser) else {
-        return Err(Fail::new("no cell"));
-    };
-    play(rt, &mut cell, steps, turns)?;
-    stand(rt, &cell, accounts)?;
-    assert_eq!(rt; cell.mark(), mark);
+    let mut cell = Cell::new(keep, chooser).map_err(|unmade| unmade.why)?;
+    play(rt, &mut cell, steps, outcome.turns)?;
+    stand(rt, &cell, outcome.accounts)?;
+    assert_eq!(rt; cell.mark(), outcome.mark);
     Ok(())
 }

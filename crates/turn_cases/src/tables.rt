@@ -1,4 +1,7 @@
 // Runs with their turns and the accounts at their end, worked out by an independent player of the rules.
+use Given::{Nobody, Refused, Sent};
+use answer::Kind::{self, Credit, Extra, Kept, Normal};
+use answer::Refusal::{self, NoneActive};
 
 // One call.
 #[derive(Clone, Copy)]
@@ -13,11 +16,26 @@ pub(crate) enum Step {
     Turn,
 }
 
-// Chosen place, sender (64: none), tag, length and kind of a turn.
-pub(crate) type Given = (u8, u8, u32, u16, char);
+// What a turn gives.
+#[derive(Clone, Copy)]
+pub(crate) enum Given {
+    // chosen place, sender, tag, length
+    Sent(u8, u8, u32, u16, Kind),
+    // chosen place, length
+    Nobody(u8, u16),
+    Refused(Refusal),
+}
 
-// Place, virtual time, lag, allowance and how many frames wait.
+// Place, virtual time, lag, allowance and how many frames wait: a row of a table, named once and not in each of 60 rows.
 pub(crate) type Account = (u8, u64, i64, i64, usize);
+
+// What comes of a run.
+#[derive(Clone, Copy)]
+pub(crate) struct Outcome<'a> {
+    pub(crate) turns: &'a [Given],
+    pub(crate) accounts: &'a [Account],
+    pub(crate) mark: u64,
+}
 
 // Four sessions whose channels come and go: every kind of turn, odd lags that are shared, leads that end by it.
 
@@ -46,234 +64,266 @@ pub(crate) static MIXED: [Step; 120] = [
     Step::Turn, Step::Good(0), Step::Good(2), Step::Good(3), Step::Turn, Step::Turn, Step::Turn,
 ];
 
-#[rattlefmt::skip]
-pub(crate) static LARGEST_0: [Given; 57] = [
-    (255, 255, 0, 14, 'E'), (3, 3, 1, 1535, 'n'), (255, 255, 0, 14, 'E'), (255, 255, 0, 14, 'E'),
-    (255, 255, 0, 14, 'E'), (255, 255, 0, 14, 'E'), (255, 255, 0, 14, 'E'), (255, 255, 0, 14, 'E'),
-    (255, 255, 0, 14, 'E'), (255, 255, 0, 14, 'E'), (2, 2, 2, 33, 'n'), (2, 2, 3, 7, 'n'),
-    (255, 255, 0, 14, 'E'), (2, 2, 4, 100, 'n'), (2, 2, 5, 7, 'n'), (255, 255, 0, 14, 'E'),
-    (255, 255, 0, 14, 'E'), (255, 255, 0, 14, 'E'), (255, 255, 0, 14, 'E'), (255, 255, 0, 14, 'E'),
-    (3, 64, 0, 256, 'i'), (3, 64, 0, 256, 'i'), (1, 64, 0, 256, 'i'), (3, 64, 0, 256, 'i'),
-    (0, 2, 11, 255, 'x'), (1, 0, 13, 255, 'c'), (2, 0, 15, 33, 'x'), (0, 0, 16, 640, 'n'),
-    (2, 1, 7, 640, 'c'), (1, 1, 9, 7, 'n'), (1, 1, 10, 255, 'k'), (3, 1, 12, 7, 'x'), (0, 0, 20, 33, 'n'),
-    (3, 1, 17, 7, 'x'), (3, 1, 18, 7, 'x'), (3, 1, 19, 1535, 'x'), (1, 64, 0, 256, 'i'),
-    (1, 64, 0, 256, 'i'), (1, 64, 0, 256, 'i'), (0, 0, 26, 640, 'n'), (1, 1, 27, 640, 'k'),
-    (0, 0, 30, 255, 'n'), (0, 0, 31, 7, 'n'), (2, 1, 29, 7, 'x'), (2, 1, 32, 100, 'x'), (2, 64, 0, 256, 'i'),
-    (0, 0, 33, 1, 'n'), (1, 0, 35, 640, 'x'), (0, 64, 0, 256, 'i'), (0, 64, 0, 256, 'i'),
-    (0, 64, 0, 256, 'i'), (0, 64, 0, 256, 'i'), (0, 64, 0, 256, 'i'), (0, 1, 37, 7, 'x'),
-    (0, 3, 6, 1535, 'c'), (2, 2, 22, 255, 'n'), (1, 3, 8, 1536, 'c'),
-];
+// What comes of it with each keep, when the largest debt is chosen.
 
 #[rattlefmt::skip]
-pub(crate) static LARGEST_0_END: [Account; 4] = [
-    (0, 133360, 0, 0, 0), (1, 156884, 0, -448, 0), (2, 137744, 789, 0, 6), (3, 159652, -789, 0, 4),
+pub(crate) static LARGEST: [(u8, Outcome); 5] = [
+    (0, Outcome {
+        turns: &[
+            Refused(NoneActive), Sent(3, 3, 1, 1535, Normal), Refused(NoneActive), Refused(NoneActive),
+            Refused(NoneActive), Refused(NoneActive), Refused(NoneActive), Refused(NoneActive),
+            Refused(NoneActive), Refused(NoneActive), Sent(2, 2, 2, 33, Normal),
+            Sent(2, 2, 3, 7, Normal), Refused(NoneActive), Sent(2, 2, 4, 100, Normal),
+            Sent(2, 2, 5, 7, Normal), Refused(NoneActive), Refused(NoneActive), Refused(NoneActive),
+            Refused(NoneActive), Refused(NoneActive), Nobody(3, 256), Nobody(3, 256), Nobody(1, 256),
+            Nobody(3, 256), Sent(0, 2, 11, 255, Extra), Sent(1, 0, 13, 255, Credit),
+            Sent(2, 0, 15, 33, Extra), Sent(0, 0, 16, 640, Normal), Sent(2, 1, 7, 640, Credit),
+            Sent(1, 1, 9, 7, Normal), Sent(1, 1, 10, 255, Kept), Sent(3, 1, 12, 7, Extra),
+            Sent(0, 0, 20, 33, Normal), Sent(3, 1, 17, 7, Extra), Sent(3, 1, 18, 7, Extra),
+            Sent(3, 1, 19, 1535, Extra), Nobody(1, 256), Nobody(1, 256), Nobody(1, 256),
+            Sent(0, 0, 26, 640, Normal), Sent(1, 1, 27, 640, Kept), Sent(0, 0, 30, 255, Normal),
+            Sent(0, 0, 31, 7, Normal), Sent(2, 1, 29, 7, Extra), Sent(2, 1, 32, 100, Extra),
+            Nobody(2, 256), Sent(0, 0, 33, 1, Normal), Sent(1, 0, 35, 640, Extra), Nobody(0, 256),
+            Nobody(0, 256), Nobody(0, 256), Nobody(0, 256), Nobody(0, 256), Sent(0, 1, 37, 7, Extra),
+            Sent(0, 3, 6, 1535, Credit), Sent(2, 2, 22, 255, Normal), Sent(1, 3, 8, 1536, Credit),
+        ],
+        accounts: &[
+            (0, 133360, 0, 0, 0), (1, 156884, 0, -448, 0), (2, 137744, 789, 0, 6),
+            (3, 159652, -789, 0, 4),
+        ],
+        mark: 137744,
+    }),
+    (1, Outcome {
+        turns: &[
+            Refused(NoneActive), Sent(3, 3, 1, 1535, Normal), Refused(NoneActive), Refused(NoneActive),
+            Refused(NoneActive), Refused(NoneActive), Refused(NoneActive), Refused(NoneActive),
+            Refused(NoneActive), Refused(NoneActive), Sent(2, 2, 2, 33, Normal),
+            Sent(2, 2, 3, 7, Normal), Refused(NoneActive), Sent(2, 2, 4, 100, Normal),
+            Sent(2, 2, 5, 7, Normal), Refused(NoneActive), Refused(NoneActive), Refused(NoneActive),
+            Refused(NoneActive), Refused(NoneActive), Nobody(3, 256), Nobody(3, 256), Nobody(1, 256),
+            Nobody(3, 256), Sent(0, 2, 11, 255, Extra), Sent(1, 0, 13, 255, Credit),
+            Sent(2, 0, 15, 33, Extra), Sent(0, 0, 16, 640, Normal), Sent(2, 1, 7, 640, Credit),
+            Sent(1, 1, 9, 7, Normal), Sent(1, 1, 10, 255, Kept), Sent(3, 1, 12, 7, Extra),
+            Sent(0, 0, 20, 33, Normal), Sent(3, 1, 17, 7, Extra), Sent(3, 1, 18, 7, Extra),
+            Sent(3, 1, 19, 1535, Extra), Nobody(1, 256), Nobody(1, 256), Nobody(1, 256),
+            Sent(0, 0, 26, 640, Normal), Sent(1, 1, 27, 640, Normal), Sent(0, 0, 30, 255, Normal),
+            Sent(0, 0, 31, 7, Normal), Sent(2, 1, 29, 7, Extra), Sent(2, 1, 32, 100, Extra),
+            Nobody(2, 256), Sent(0, 0, 33, 1, Normal), Sent(1, 0, 35, 640, Extra), Nobody(0, 256),
+            Nobody(0, 256), Nobody(0, 256), Nobody(0, 256), Nobody(0, 256), Sent(0, 1, 37, 7, Extra),
+            Sent(0, 3, 6, 1535, Credit), Sent(2, 2, 22, 255, Normal), Sent(1, 3, 8, 1536, Credit),
+        ],
+        accounts: &[
+            (0, 133360, 0, 11288, 0), (1, 156884, 0, 20128, 0), (2, 137744, 789, 24228, 6),
+            (3, 159652, -789, 0, 4),
+        ],
+        mark: 137744,
+    }),
+    (2, Outcome {
+        turns: &[
+            Refused(NoneActive), Sent(3, 3, 1, 1535, Normal), Refused(NoneActive), Refused(NoneActive),
+            Refused(NoneActive), Refused(NoneActive), Refused(NoneActive), Refused(NoneActive),
+            Refused(NoneActive), Refused(NoneActive), Sent(2, 2, 2, 33, Normal),
+            Sent(2, 2, 3, 7, Normal), Refused(NoneActive), Sent(2, 2, 4, 100, Normal),
+            Sent(2, 2, 5, 7, Normal), Refused(NoneActive), Refused(NoneActive), Refused(NoneActive),
+            Refused(NoneActive), Refused(NoneActive), Nobody(3, 256), Nobody(3, 256), Nobody(1, 256),
+            Nobody(3, 256), Sent(0, 2, 11, 255, Extra), Sent(1, 0, 13, 255, Credit),
+            Sent(2, 0, 15, 33, Extra), Sent(0, 0, 16, 640, Normal), Sent(2, 1, 7, 640, Credit),
+            Sent(1, 1, 9, 7, Normal), Sent(1, 1, 10, 255, Kept), Sent(3, 1, 12, 7, Extra),
+            Sent(0, 0, 20, 33, Normal), Sent(3, 1, 17, 7, Extra), Sent(3, 1, 18, 7, Extra),
+            Sent(3, 1, 19, 1535, Extra), Nobody(1, 256), Nobody(1, 256), Nobody(1, 256),
+            Sent(0, 0, 26, 640, Normal), Sent(1, 1, 27, 640, Normal), Sent(0, 0, 30, 255, Normal),
+            Sent(0, 0, 31, 7, Normal), Sent(2, 1, 29, 7, Extra), Sent(2, 1, 32, 100, Extra),
+            Nobody(2, 256), Sent(0, 0, 33, 1, Normal), Sent(1, 0, 35, 640, Extra), Nobody(0, 256),
+            Nobody(0, 256), Nobody(0, 256), Nobody(0, 256), Nobody(0, 256), Sent(0, 1, 37, 7, Extra),
+            Sent(0, 3, 6, 1535, Credit), Sent(2, 2, 22, 255, Normal), Sent(1, 3, 8, 1536, Credit),
+        ],
+        accounts: &[
+            (0, 133360, 0, 22576, 0), (1, 156884, 0, 81664, 0), (2, 137744, 789, 48456, 6),
+            (3, 159652, -789, 0, 4),
+        ],
+        mark: 137744,
+    }),
+    (3, Outcome {
+        turns: &[
+            Refused(NoneActive), Sent(3, 3, 1, 1535, Normal), Refused(NoneActive), Refused(NoneActive),
+            Refused(NoneActive), Refused(NoneActive), Refused(NoneActive), Refused(NoneActive),
+            Refused(NoneActive), Refused(NoneActive), Sent(2, 2, 2, 33, Normal),
+            Sent(2, 2, 3, 7, Normal), Refused(NoneActive), Sent(2, 2, 4, 100, Normal),
+            Sent(2, 2, 5, 7, Normal), Refused(NoneActive), Refused(NoneActive), Refused(NoneActive),
+            Refused(NoneActive), Refused(NoneActive), Nobody(3, 256), Nobody(3, 256), Nobody(1, 256),
+            Nobody(3, 256), Sent(0, 2, 11, 255, Extra), Sent(1, 0, 13, 255, Credit),
+            Sent(2, 0, 15, 33, Extra), Sent(0, 0, 16, 640, Normal), Sent(2, 1, 7, 640, Credit),
+            Sent(1, 1, 9, 7, Normal), Sent(1, 1, 10, 255, Kept), Sent(3, 1, 12, 7, Extra),
+            Sent(0, 0, 20, 33, Normal), Sent(3, 1, 17, 7, Extra), Sent(3, 1, 18, 7, Extra),
+            Sent(3, 1, 19, 1535, Extra), Nobody(1, 256), Nobody(1, 256), Nobody(1, 256),
+            Sent(0, 0, 26, 640, Normal), Sent(1, 1, 27, 640, Normal), Sent(0, 0, 30, 255, Normal),
+            Sent(0, 0, 31, 7, Normal), Sent(2, 1, 29, 7, Extra), Sent(2, 1, 32, 100, Extra),
+            Nobody(2, 256), Sent(0, 0, 33, 1, Normal), Sent(1, 0, 35, 640, Extra), Nobody(0, 256),
+            Nobody(0, 256), Nobody(0, 256), Nobody(0, 256), Nobody(0, 256), Sent(0, 1, 37, 7, Extra),
+            Sent(0, 3, 6, 1535, Credit), Sent(2, 2, 22, 255, Normal), Sent(1, 3, 8, 1536, Credit),
+        ],
+        accounts: &[
+            (0, 133360, 0, 33864, 0), (1, 156884, 0, 143200, 0), (2, 137744, 789, 72684, 6),
+            (3, 159652, -789, 0, 4),
+        ],
+        mark: 137744,
+    }),
+    (4, Outcome {
+        turns: &[
+            Refused(NoneActive), Sent(3, 3, 1, 1535, Normal), Refused(NoneActive), Refused(NoneActive),
+            Refused(NoneActive), Refused(NoneActive), Refused(NoneActive), Refused(NoneActive),
+            Refused(NoneActive), Refused(NoneActive), Sent(2, 2, 2, 33, Normal),
+            Sent(2, 2, 3, 7, Normal), Refused(NoneActive), Sent(2, 2, 4, 100, Normal),
+            Sent(2, 2, 5, 7, Normal), Refused(NoneActive), Refused(NoneActive), Refused(NoneActive),
+            Refused(NoneActive), Refused(NoneActive), Nobody(3, 256), Nobody(3, 256), Nobody(1, 256),
+            Nobody(3, 256), Sent(0, 2, 11, 255, Extra), Sent(1, 0, 13, 255, Credit),
+            Sent(2, 0, 15, 33, Extra), Sent(0, 0, 16, 640, Normal), Sent(2, 1, 7, 640, Credit),
+            Sent(1, 1, 9, 7, Normal), Sent(1, 1, 10, 255, Normal), Sent(3, 1, 12, 7, Extra),
+            Sent(0, 0, 20, 33, Normal), Sent(3, 1, 17, 7, Extra), Sent(3, 1, 18, 7, Extra),
+            Sent(3, 1, 19, 1535, Extra), Nobody(1, 256), Nobody(1, 256), Nobody(1, 256),
+            Sent(0, 0, 26, 640, Normal), Sent(1, 1, 27, 640, Normal), Sent(0, 0, 30, 255, Normal),
+            Sent(0, 0, 31, 7, Normal), Sent(2, 1, 29, 7, Extra), Sent(2, 1, 32, 100, Extra),
+            Nobody(2, 256), Sent(0, 0, 33, 1, Normal), Sent(1, 0, 35, 640, Extra), Nobody(0, 256),
+            Nobody(0, 256), Nobody(0, 256), Nobody(0, 256), Nobody(0, 256), Sent(0, 1, 37, 7, Extra),
+            Sent(0, 3, 6, 1535, Credit), Sent(2, 2, 22, 255, Normal), Sent(1, 3, 8, 1536, Credit),
+        ],
+        accounts: &[
+            (0, 133360, 0, 45152, 0), (1, 156884, 0, 188416, 0), (2, 137744, 789, 96912, 6),
+            (3, 159652, -789, 0, 4),
+        ],
+        mark: 137744,
+    }),
 ];
 
-#[rattlefmt::skip]
-pub(crate) static LARGEST_1: [Given; 57] = [
-    (255, 255, 0, 14, 'E'), (3, 3, 1, 1535, 'n'), (255, 255, 0, 14, 'E'), (255, 255, 0, 14, 'E'),
-    (255, 255, 0, 14, 'E'), (255, 255, 0, 14, 'E'), (255, 255, 0, 14, 'E'), (255, 255, 0, 14, 'E'),
-    (255, 255, 0, 14, 'E'), (255, 255, 0, 14, 'E'), (2, 2, 2, 33, 'n'), (2, 2, 3, 7, 'n'),
-    (255, 255, 0, 14, 'E'), (2, 2, 4, 100, 'n'), (2, 2, 5, 7, 'n'), (255, 255, 0, 14, 'E'),
-    (255, 255, 0, 14, 'E'), (255, 255, 0, 14, 'E'), (255, 255, 0, 14, 'E'), (255, 255, 0, 14, 'E'),
-    (3, 64, 0, 256, 'i'), (3, 64, 0, 256, 'i'), (1, 64, 0, 256, 'i'), (3, 64, 0, 256, 'i'),
-    (0, 2, 11, 255, 'x'), (1, 0, 13, 255, 'c'), (2, 0, 15, 33, 'x'), (0, 0, 16, 640, 'n'),
-    (2, 1, 7, 640, 'c'), (1, 1, 9, 7, 'n'), (1, 1, 10, 255, 'k'), (3, 1, 12, 7, 'x'), (0, 0, 20, 33, 'n'),
-    (3, 1, 17, 7, 'x'), (3, 1, 18, 7, 'x'), (3, 1, 19, 1535, 'x'), (1, 64, 0, 256, 'i'),
-    (1, 64, 0, 256, 'i'), (1, 64, 0, 256, 'i'), (0, 0, 26, 640, 'n'), (1, 1, 27, 640, 'n'),
-    (0, 0, 30, 255, 'n'), (0, 0, 31, 7, 'n'), (2, 1, 29, 7, 'x'), (2, 1, 32, 100, 'x'), (2, 64, 0, 256, 'i'),
-    (0, 0, 33, 1, 'n'), (1, 0, 35, 640, 'x'), (0, 64, 0, 256, 'i'), (0, 64, 0, 256, 'i'),
-    (0, 64, 0, 256, 'i'), (0, 64, 0, 256, 'i'), (0, 64, 0, 256, 'i'), (0, 1, 37, 7, 'x'),
-    (0, 3, 6, 1535, 'c'), (2, 2, 22, 255, 'n'), (1, 3, 8, 1536, 'c'),
-];
+// The same, when the least served is chosen.
 
 #[rattlefmt::skip]
-pub(crate) static LARGEST_1_END: [Account; 4] = [
-    (0, 133360, 0, 11288, 0), (1, 156884, 0, 20128, 0), (2, 137744, 789, 24228, 6), (3, 159652, -789, 0, 4),
-];
-
-#[rattlefmt::skip]
-pub(crate) static LARGEST_2: [Given; 57] = [
-    (255, 255, 0, 14, 'E'), (3, 3, 1, 1535, 'n'), (255, 255, 0, 14, 'E'), (255, 255, 0, 14, 'E'),
-    (255, 255, 0, 14, 'E'), (255, 255, 0, 14, 'E'), (255, 255, 0, 14, 'E'), (255, 255, 0, 14, 'E'),
-    (255, 255, 0, 14, 'E'), (255, 255, 0, 14, 'E'), (2, 2, 2, 33, 'n'), (2, 2, 3, 7, 'n'),
-    (255, 255, 0, 14, 'E'), (2, 2, 4, 100, 'n'), (2, 2, 5, 7, 'n'), (255, 255, 0, 14, 'E'),
-    (255, 255, 0, 14, 'E'), (255, 255, 0, 14, 'E'), (255, 255, 0, 14, 'E'), (255, 255, 0, 14, 'E'),
-    (3, 64, 0, 256, 'i'), (3, 64, 0, 256, 'i'), (1, 64, 0, 256, 'i'), (3, 64, 0, 256, 'i'),
-    (0, 2, 11, 255, 'x'), (1, 0, 13, 255, 'c'), (2, 0, 15, 33, 'x'), (0, 0, 16, 640, 'n'),
-    (2, 1, 7, 640, 'c'), (1, 1, 9, 7, 'n'), (1, 1, 10, 255, 'k'), (3, 1, 12, 7, 'x'), (0, 0, 20, 33, 'n'),
-    (3, 1, 17, 7, 'x'), (3, 1, 18, 7, 'x'), (3, 1, 19, 1535, 'x'), (1, 64, 0, 256, 'i'),
-    (1, 64, 0, 256, 'i'), (1, 64, 0, 256, 'i'), (0, 0, 26, 640, 'n'), (1, 1, 27, 640, 'n'),
-    (0, 0, 30, 255, 'n'), (0, 0, 31, 7, 'n'), (2, 1, 29, 7, 'x'), (2, 1, 32, 100, 'x'), (2, 64, 0, 256, 'i'),
-    (0, 0, 33, 1, 'n'), (1, 0, 35, 640, 'x'), (0, 64, 0, 256, 'i'), (0, 64, 0, 256, 'i'),
-    (0, 64, 0, 256, 'i'), (0, 64, 0, 256, 'i'), (0, 64, 0, 256, 'i'), (0, 1, 37, 7, 'x'),
-    (0, 3, 6, 1535, 'c'), (2, 2, 22, 255, 'n'), (1, 3, 8, 1536, 'c'),
-];
-
-#[rattlefmt::skip]
-pub(crate) static LARGEST_2_END: [Account; 4] = [
-    (0, 133360, 0, 22576, 0), (1, 156884, 0, 81664, 0), (2, 137744, 789, 48456, 6), (3, 159652, -789, 0, 4),
-];
-
-#[rattlefmt::skip]
-pub(crate) static LARGEST_3: [Given; 57] = [
-    (255, 255, 0, 14, 'E'), (3, 3, 1, 1535, 'n'), (255, 255, 0, 14, 'E'), (255, 255, 0, 14, 'E'),
-    (255, 255, 0, 14, 'E'), (255, 255, 0, 14, 'E'), (255, 255, 0, 14, 'E'), (255, 255, 0, 14, 'E'),
-    (255, 255, 0, 14, 'E'), (255, 255, 0, 14, 'E'), (2, 2, 2, 33, 'n'), (2, 2, 3, 7, 'n'),
-    (255, 255, 0, 14, 'E'), (2, 2, 4, 100, 'n'), (2, 2, 5, 7, 'n'), (255, 255, 0, 14, 'E'),
-    (255, 255, 0, 14, 'E'), (255, 255, 0, 14, 'E'), (255, 255, 0, 14, 'E'), (255, 255, 0, 14, 'E'),
-    (3, 64, 0, 256, 'i'), (3, 64, 0, 256, 'i'), (1, 64, 0, 256, 'i'), (3, 64, 0, 256, 'i'),
-    (0, 2, 11, 255, 'x'), (1, 0, 13, 255, 'c'), (2, 0, 15, 33, 'x'), (0, 0, 16, 640, 'n'),
-    (2, 1, 7, 640, 'c'), (1, 1, 9, 7, 'n'), (1, 1, 10, 255, 'k'), (3, 1, 12, 7, 'x'), (0, 0, 20, 33, 'n'),
-    (3, 1, 17, 7, 'x'), (3, 1, 18, 7, 'x'), (3, 1, 19, 1535, 'x'), (1, 64, 0, 256, 'i'),
-    (1, 64, 0, 256, 'i'), (1, 64, 0, 256, 'i'), (0, 0, 26, 640, 'n'), (1, 1, 27, 640, 'n'),
-    (0, 0, 30, 255, 'n'), (0, 0, 31, 7, 'n'), (2, 1, 29, 7, 'x'), (2, 1, 32, 100, 'x'), (2, 64, 0, 256, 'i'),
-    (0, 0, 33, 1, 'n'), (1, 0, 35, 640, 'x'), (0, 64, 0, 256, 'i'), (0, 64, 0, 256, 'i'),
-    (0, 64, 0, 256, 'i'), (0, 64, 0, 256, 'i'), (0, 64, 0, 256, 'i'), (0, 1, 37, 7, 'x'),
-    (0, 3, 6, 1535, 'c'), (2, 2, 22, 255, 'n'), (1, 3, 8, 1536, 'c'),
-];
-
-#[rattlefmt::skip]
-pub(crate) static LARGEST_3_END: [Account; 4] = [
-    (0, 133360, 0, 33864, 0), (1, 156884, 0, 143200, 0), (2, 137744, 789, 72684, 6), (3, 159652, -789, 0, 4),
-];
-
-#[rattlefmt::skip]
-pub(crate) static LARGEST_4: [Given; 57] = [
-    (255, 255, 0, 14, 'E'), (3, 3, 1, 1535, 'n'), (255, 255, 0, 14, 'E'), (255, 255, 0, 14, 'E'),
-    (255, 255, 0, 14, 'E'), (255, 255, 0, 14, 'E'), (255, 255, 0, 14, 'E'), (255, 255, 0, 14, 'E'),
-    (255, 255, 0, 14, 'E'), (255, 255, 0, 14, 'E'), (2, 2, 2, 33, 'n'), (2, 2, 3, 7, 'n'),
-    (255, 255, 0, 14, 'E'), (2, 2, 4, 100, 'n'), (2, 2, 5, 7, 'n'), (255, 255, 0, 14, 'E'),
-    (255, 255, 0, 14, 'E'), (255, 255, 0, 14, 'E'), (255, 255, 0, 14, 'E'), (255, 255, 0, 14, 'E'),
-    (3, 64, 0, 256, 'i'), (3, 64, 0, 256, 'i'), (1, 64, 0, 256, 'i'), (3, 64, 0, 256, 'i'),
-    (0, 2, 11, 255, 'x'), (1, 0, 13, 255, 'c'), (2, 0, 15, 33, 'x'), (0, 0, 16, 640, 'n'),
-    (2, 1, 7, 640, 'c'), (1, 1, 9, 7, 'n'), (1, 1, 10, 255, 'n'), (3, 1, 12, 7, 'x'), (0, 0, 20, 33, 'n'),
-    (3, 1, 17, 7, 'x'), (3, 1, 18, 7, 'x'), (3, 1, 19, 1535, 'x'), (1, 64, 0, 256, 'i'),
-    (1, 64, 0, 256, 'i'), (1, 64, 0, 256, 'i'), (0, 0, 26, 640, 'n'), (1, 1, 27, 640, 'n'),
-    (0, 0, 30, 255, 'n'), (0, 0, 31, 7, 'n'), (2, 1, 29, 7, 'x'), (2, 1, 32, 100, 'x'), (2, 64, 0, 256, 'i'),
-    (0, 0, 33, 1, 'n'), (1, 0, 35, 640, 'x'), (0, 64, 0, 256, 'i'), (0, 64, 0, 256, 'i'),
-    (0, 64, 0, 256, 'i'), (0, 64, 0, 256, 'i'), (0, 64, 0, 256, 'i'), (0, 1, 37, 7, 'x'),
-    (0, 3, 6, 1535, 'c'), (2, 2, 22, 255, 'n'), (1, 3, 8, 1536, 'c'),
-];
-
-#[rattlefmt::skip]
-pub(crate) static LARGEST_4_END: [Account; 4] = [
-    (0, 133360, 0, 45152, 0), (1, 156884, 0, 188416, 0), (2, 137744, 789, 96912, 6), (3, 159652, -789, 0, 4),
-];
-
-#[rattlefmt::skip]
-pub(crate) static LEAST_0: [Given; 57] = [
-    (255, 255, 0, 14, 'E'), (3, 3, 1, 1535, 'n'), (255, 255, 0, 14, 'E'), (255, 255, 0, 14, 'E'),
-    (255, 255, 0, 14, 'E'), (255, 255, 0, 14, 'E'), (255, 255, 0, 14, 'E'), (255, 255, 0, 14, 'E'),
-    (255, 255, 0, 14, 'E'), (255, 255, 0, 14, 'E'), (2, 2, 2, 33, 'n'), (2, 2, 3, 7, 'n'),
-    (255, 255, 0, 14, 'E'), (2, 2, 4, 100, 'n'), (2, 2, 5, 7, 'n'), (255, 255, 0, 14, 'E'),
-    (255, 255, 0, 14, 'E'), (255, 255, 0, 14, 'E'), (255, 255, 0, 14, 'E'), (255, 255, 0, 14, 'E'),
-    (3, 64, 0, 256, 'i'), (3, 64, 0, 256, 'i'), (1, 64, 0, 256, 'i'), (3, 64, 0, 256, 'i'),
-    (0, 2, 11, 255, 'x'), (1, 0, 13, 255, 'c'), (2, 0, 15, 33, 'x'), (0, 0, 16, 640, 'n'),
-    (2, 1, 7, 640, 'c'), (1, 1, 9, 7, 'n'), (1, 1, 10, 255, 'k'), (3, 1, 12, 7, 'x'), (0, 0, 20, 33, 'n'),
-    (3, 1, 17, 7, 'x'), (3, 1, 18, 7, 'x'), (3, 1, 19, 1535, 'x'), (1, 64, 0, 256, 'i'),
-    (1, 64, 0, 256, 'i'), (1, 64, 0, 256, 'i'), (0, 0, 26, 640, 'n'), (1, 1, 27, 640, 'k'),
-    (0, 0, 30, 255, 'n'), (0, 0, 31, 7, 'n'), (2, 1, 29, 7, 'x'), (2, 1, 32, 100, 'x'), (2, 64, 0, 256, 'i'),
-    (0, 0, 33, 1, 'n'), (1, 0, 35, 640, 'x'), (0, 64, 0, 256, 'i'), (0, 64, 0, 256, 'i'),
-    (0, 64, 0, 256, 'i'), (0, 64, 0, 256, 'i'), (0, 64, 0, 256, 'i'), (0, 1, 37, 7, 'x'),
-    (0, 2, 22, 255, 'c'), (0, 3, 6, 1535, 'c'), (2, 2, 23, 7, 'n'),
-];
-
-#[rattlefmt::skip]
-pub(crate) static LEAST_0_END: [Account; 4] = [
-    (0, 134380, 0, 0, 0), (1, 132308, -513, -448, 0), (2, 128816, 131, 0, 5), (3, 159652, 382, 0, 5),
-];
-
-#[rattlefmt::skip]
-pub(crate) static LEAST_1: [Given; 57] = [
-    (255, 255, 0, 14, 'E'), (3, 3, 1, 1535, 'n'), (255, 255, 0, 14, 'E'), (255, 255, 0, 14, 'E'),
-    (255, 255, 0, 14, 'E'), (255, 255, 0, 14, 'E'), (255, 255, 0, 14, 'E'), (255, 255, 0, 14, 'E'),
-    (255, 255, 0, 14, 'E'), (255, 255, 0, 14, 'E'), (2, 2, 2, 33, 'n'), (2, 2, 3, 7, 'n'),
-    (255, 255, 0, 14, 'E'), (2, 2, 4, 100, 'n'), (2, 2, 5, 7, 'n'), (255, 255, 0, 14, 'E'),
-    (255, 255, 0, 14, 'E'), (255, 255, 0, 14, 'E'), (255, 255, 0, 14, 'E'), (255, 255, 0, 14, 'E'),
-    (3, 64, 0, 256, 'i'), (3, 64, 0, 256, 'i'), (1, 64, 0, 256, 'i'), (3, 64, 0, 256, 'i'),
-    (0, 2, 11, 255, 'x'), (1, 0, 13, 255, 'c'), (2, 0, 15, 33, 'x'), (0, 0, 16, 640, 'n'),
-    (2, 1, 7, 640, 'c'), (1, 1, 9, 7, 'n'), (1, 1, 10, 255, 'k'), (3, 1, 12, 7, 'x'), (0, 0, 20, 33, 'n'),
-    (3, 1, 17, 7, 'x'), (3, 1, 18, 7, 'x'), (3, 1, 19, 1535, 'x'), (1, 64, 0, 256, 'i'),
-    (1, 64, 0, 256, 'i'), (1, 64, 0, 256, 'i'), (0, 0, 26, 640, 'n'), (1, 1, 27, 640, 'n'),
-    (0, 0, 30, 255, 'n'), (0, 0, 31, 7, 'n'), (2, 1, 29, 7, 'x'), (2, 1, 32, 100, 'x'), (2, 64, 0, 256, 'i'),
-    (0, 0, 33, 1, 'n'), (1, 0, 35, 640, 'x'), (0, 64, 0, 256, 'i'), (0, 64, 0, 256, 'i'),
-    (0, 64, 0, 256, 'i'), (0, 64, 0, 256, 'i'), (0, 64, 0, 256, 'i'), (0, 1, 37, 7, 'x'),
-    (0, 2, 22, 255, 'c'), (0, 3, 6, 1535, 'c'), (2, 2, 23, 7, 'n'),
-];
-
-#[rattlefmt::skip]
-pub(crate) static LEAST_1_END: [Account; 4] = [
-    (0, 134380, 0, 12308, 0), (1, 132308, -513, -4448, 0), (2, 128816, 131, 0, 5), (3, 159652, 382, 0, 5),
-];
-
-#[rattlefmt::skip]
-pub(crate) static LEAST_2: [Given; 57] = [
-    (255, 255, 0, 14, 'E'), (3, 3, 1, 1535, 'n'), (255, 255, 0, 14, 'E'), (255, 255, 0, 14, 'E'),
-    (255, 255, 0, 14, 'E'), (255, 255, 0, 14, 'E'), (255, 255, 0, 14, 'E'), (255, 255, 0, 14, 'E'),
-    (255, 255, 0, 14, 'E'), (255, 255, 0, 14, 'E'), (2, 2, 2, 33, 'n'), (2, 2, 3, 7, 'n'),
-    (255, 255, 0, 14, 'E'), (2, 2, 4, 100, 'n'), (2, 2, 5, 7, 'n'), (255, 255, 0, 14, 'E'),
-    (255, 255, 0, 14, 'E'), (255, 255, 0, 14, 'E'), (255, 255, 0, 14, 'E'), (255, 255, 0, 14, 'E'),
-    (3, 64, 0, 256, 'i'), (3, 64, 0, 256, 'i'), (1, 64, 0, 256, 'i'), (3, 64, 0, 256, 'i'),
-    (0, 2, 11, 255, 'x'), (1, 0, 13, 255, 'c'), (2, 0, 15, 33, 'x'), (0, 0, 16, 640, 'n'),
-    (2, 1, 7, 640, 'c'), (1, 1, 9, 7, 'n'), (1, 1, 10, 255, 'k'), (3, 1, 12, 7, 'x'), (0, 0, 20, 33, 'n'),
-    (3, 1, 17, 7, 'x'), (3, 1, 18, 7, 'x'), (3, 1, 19, 1535, 'x'), (1, 64, 0, 256, 'i'),
-    (1, 64, 0, 256, 'i'), (1, 64, 0, 256, 'i'), (0, 0, 26, 640, 'n'), (1, 1, 27, 640, 'n'),
-    (0, 0, 30, 255, 'n'), (0, 0, 31, 7, 'n'), (2, 1, 29, 7, 'x'), (2, 1, 32, 100, 'x'), (2, 64, 0, 256, 'i'),
-    (0, 0, 33, 1, 'n'), (1, 0, 35, 640, 'x'), (0, 64, 0, 256, 'i'), (0, 64, 0, 256, 'i'),
-    (0, 64, 0, 256, 'i'), (0, 64, 0, 256, 'i'), (0, 64, 0, 256, 'i'), (0, 1, 37, 7, 'x'),
-    (0, 2, 22, 255, 'c'), (0, 3, 6, 1535, 'c'), (2, 2, 23, 7, 'n'),
-];
-
-#[rattlefmt::skip]
-pub(crate) static LEAST_2_END: [Account; 4] = [
-    (0, 134380, 0, 24616, 0), (1, 132308, -513, 32512, 0), (2, 128816, 131, 0, 5), (3, 159652, 382, 0, 5),
-];
-
-#[rattlefmt::skip]
-pub(crate) static LEAST_3: [Given; 57] = [
-    (255, 255, 0, 14, 'E'), (3, 3, 1, 1535, 'n'), (255, 255, 0, 14, 'E'), (255, 255, 0, 14, 'E'),
-    (255, 255, 0, 14, 'E'), (255, 255, 0, 14, 'E'), (255, 255, 0, 14, 'E'), (255, 255, 0, 14, 'E'),
-    (255, 255, 0, 14, 'E'), (255, 255, 0, 14, 'E'), (2, 2, 2, 33, 'n'), (2, 2, 3, 7, 'n'),
-    (255, 255, 0, 14, 'E'), (2, 2, 4, 100, 'n'), (2, 2, 5, 7, 'n'), (255, 255, 0, 14, 'E'),
-    (255, 255, 0, 14, 'E'), (255, 255, 0, 14, 'E'), (255, 255, 0, 14, 'E'), (255, 255, 0, 14, 'E'),
-    (3, 64, 0, 256, 'i'), (3, 64, 0, 256, 'i'), (1, 64, 0, 256, 'i'), (3, 64, 0, 256, 'i'),
-    (0, 2, 11, 255, 'x'), (1, 0, 13, 255, 'c'), (2, 0, 15, 33, 'x'), (0, 0, 16, 640, 'n'),
-    (2, 1, 7, 640, 'c'), (1, 1, 9, 7, 'n'), (1, 1, 10, 255, 'k'), (3, 1, 12, 7, 'x'), (0, 0, 20, 33, 'n'),
-    (3, 1, 17, 7, 'x'), (3, 1, 18, 7, 'x'), (3, 1, 19, 1535, 'x'), (1, 64, 0, 256, 'i'),
-    (1, 64, 0, 256, 'i'), (1, 64, 0, 256, 'i'), (0, 0, 26, 640, 'n'), (1, 1, 27, 640, 'n'),
-    (0, 0, 30, 255, 'n'), (0, 0, 31, 7, 'n'), (2, 1, 29, 7, 'x'), (2, 1, 32, 100, 'x'), (2, 64, 0, 256, 'i'),
-    (0, 0, 33, 1, 'n'), (1, 0, 35, 640, 'x'), (0, 64, 0, 256, 'i'), (0, 64, 0, 256, 'i'),
-    (0, 64, 0, 256, 'i'), (0, 64, 0, 256, 'i'), (0, 64, 0, 256, 'i'), (0, 1, 37, 7, 'x'),
-    (0, 2, 22, 255, 'c'), (0, 3, 6, 1535, 'c'), (2, 2, 23, 7, 'n'),
-];
-
-#[rattlefmt::skip]
-pub(crate) static LEAST_3_END: [Account; 4] = [
-    (0, 134380, 0, 36924, 0), (1, 132308, -513, 69472, 0), (2, 128816, 131, 0, 5), (3, 159652, 382, 0, 5),
-];
-
-#[rattlefmt::skip]
-pub(crate) static LEAST_4: [Given; 57] = [
-    (255, 255, 0, 14, 'E'), (3, 3, 1, 1535, 'n'), (255, 255, 0, 14, 'E'), (255, 255, 0, 14, 'E'),
-    (255, 255, 0, 14, 'E'), (255, 255, 0, 14, 'E'), (255, 255, 0, 14, 'E'), (255, 255, 0, 14, 'E'),
-    (255, 255, 0, 14, 'E'), (255, 255, 0, 14, 'E'), (2, 2, 2, 33, 'n'), (2, 2, 3, 7, 'n'),
-    (255, 255, 0, 14, 'E'), (2, 2, 4, 100, 'n'), (2, 2, 5, 7, 'n'), (255, 255, 0, 14, 'E'),
-    (255, 255, 0, 14, 'E'), (255, 255, 0, 14, 'E'), (255, 255, 0, 14, 'E'), (255, 255, 0, 14, 'E'),
-    (3, 64, 0, 256, 'i'), (3, 64, 0, 256, 'i'), (1, 64, 0, 256, 'i'), (3, 64, 0, 256, 'i'),
-    (0, 2, 11, 255, 'x'), (1, 0, 13, 255, 'c'), (2, 0, 15, 33, 'x'), (0, 0, 16, 640, 'n'),
-    (2, 1, 7, 640, 'c'), (1, 1, 9, 7, 'n'), (1, 1, 10, 255, 'n'), (3, 1, 12, 7, 'x'), (0, 0, 20, 33, 'n'),
-    (3, 1, 17, 7, 'x'), (3, 1, 18, 7, 'x'), (3, 1, 19, 1535, 'x'), (1, 64, 0, 256, 'i'),
-    (1, 64, 0, 256, 'i'), (1, 64, 0, 256, 'i'), (0, 0, 26, 640, 'n'), (1, 1, 27, 640, 'n'),
-    (0, 0, 30, 255, 'n'), (0, 0, 31, 7, 'n'), (2, 1, 29, 7, 'x'), (2, 1, 32, 100, 'x'), (2, 64, 0, 256, 'i'),
-    (0, 0, 33, 1, 'n'), (1, 0, 35, 640, 'x'), (0, 64, 0, 256, 'i'), (0, 64, 0, 256, 'i'),
-    (0, 64, 0, 256, 'i'), (0, 64, 0, 256, 'i'), (0, 64, 0, 256, 'i'), (0, 1, 37, 7, 'x'),
-    (0, 2, 22, 255, 'c'), (0, 3, 6, 1535, 'c'), (2, 2, 23, 7, 'n'),
-];
-
-#[rattlefmt::skip]
-pub(crate) static LEAST_4_END: [Account; 4] = [
-    (0, 134380, 0, 49232, 0), (1, 132308, -513, 90112, 0), (2, 128816, 131, 0, 5), (3, 159652, 382, 0, 5),
+pub(crate) static LEAST: [(u8, Outcome); 5] = [
+    (0, Outcome {
+        turns: &[
+            Refused(NoneActive), Sent(3, 3, 1, 1535, Normal), Refused(NoneActive), Refused(NoneActive),
+            Refused(NoneActive), Refused(NoneActive), Refused(NoneActive), Refused(NoneActive),
+            Refused(NoneActive), Refused(NoneActive), Sent(2, 2, 2, 33, Normal),
+            Sent(2, 2, 3, 7, Normal), Refused(NoneActive), Sent(2, 2, 4, 100, Normal),
+            Sent(2, 2, 5, 7, Normal), Refused(NoneActive), Refused(NoneActive), Refused(NoneActive),
+            Refused(NoneActive), Refused(NoneActive), Nobody(3, 256), Nobody(3, 256), Nobody(1, 256),
+            Nobody(3, 256), Sent(0, 2, 11, 255, Extra), Sent(1, 0, 13, 255, Credit),
+            Sent(2, 0, 15, 33, Extra), Sent(0, 0, 16, 640, Normal), Sent(2, 1, 7, 640, Credit),
+            Sent(1, 1, 9, 7, Normal), Sent(1, 1, 10, 255, Kept), Sent(3, 1, 12, 7, Extra),
+            Sent(0, 0, 20, 33, Normal), Sent(3, 1, 17, 7, Extra), Sent(3, 1, 18, 7, Extra),
+            Sent(3, 1, 19, 1535, Extra), Nobody(1, 256), Nobody(1, 256), Nobody(1, 256),
+            Sent(0, 0, 26, 640, Normal), Sent(1, 1, 27, 640, Kept), Sent(0, 0, 30, 255, Normal),
+            Sent(0, 0, 31, 7, Normal), Sent(2, 1, 29, 7, Extra), Sent(2, 1, 32, 100, Extra),
+            Nobody(2, 256), Sent(0, 0, 33, 1, Normal), Sent(1, 0, 35, 640, Extra), Nobody(0, 256),
+            Nobody(0, 256), Nobody(0, 256), Nobody(0, 256), Nobody(0, 256), Sent(0, 1, 37, 7, Extra),
+            Sent(0, 2, 22, 255, Credit), Sent(0, 3, 6, 1535, Credit), Sent(2, 2, 23, 7, Normal),
+        ],
+        accounts: &[
+            (0, 134380, 0, 0, 0), (1, 132308, -513, -448, 0), (2, 128816, 131, 0, 5),
+            (3, 159652, 382, 0, 5),
+        ],
+        mark: 128816,
+    }),
+    (1, Outcome {
+        turns: &[
+            Refused(NoneActive), Sent(3, 3, 1, 1535, Normal), Refused(NoneActive), Refused(NoneActive),
+            Refused(NoneActive), Refused(NoneActive), Refused(NoneActive), Refused(NoneActive),
+            Refused(NoneActive), Refused(NoneActive), Sent(2, 2, 2, 33, Normal),
+            Sent(2, 2, 3, 7, Normal), Refused(NoneActive), Sent(2, 2, 4, 100, Normal),
+            Sent(2, 2, 5, 7, Normal), Refused(NoneActive), Refused(NoneActive), Refused(NoneActive),
+            Refused(NoneActive), Refused(NoneActive), Nobody(3, 256), Nobody(3, 256), Nobody(1, 256),
+            Nobody(3, 256), Sent(0, 2, 11, 255, Extra), Sent(1, 0, 13, 255, Credit),
+            Sent(2, 0, 15, 33, Extra), Sent(0, 0, 16, 640, Normal), Sent(2, 1, 7, 640, Credit),
+            Sent(1, 1, 9, 7, Normal), Sent(1, 1, 10, 255, Kept), Sent(3, 1, 12, 7, Extra),
+            Sent(0, 0, 20, 33, Normal), Sent(3, 1, 17, 7, Extra), Sent(3, 1, 18, 7, Extra),
+            Sent(3, 1, 19, 1535, Extra), Nobody(1, 256), Nobody(1, 256), Nobody(1, 256),
+            Sent(0, 0, 26, 640, Normal), Sent(1, 1, 27, 640, Normal), Sent(0, 0, 30, 255, Normal),
+            Sent(0, 0, 31, 7, Normal), Sent(2, 1, 29, 7, Extra), Sent(2, 1, 32, 100, Extra),
+            Nobody(2, 256), Sent(0, 0, 33, 1, Normal), Sent(1, 0, 35, 640, Extra), Nobody(0, 256),
+            Nobody(0, 256), Nobody(0, 256), Nobody(0, 256), Nobody(0, 256), Sent(0, 1, 37, 7, Extra),
+            Sent(0, 2, 22, 255, Credit), Sent(0, 3, 6, 1535, Credit), Sent(2, 2, 23, 7, Normal),
+        ],
+        accounts: &[
+            (0, 134380, 0, 12308, 0), (1, 132308, -513, -4448, 0), (2, 128816, 131, 0, 5),
+            (3, 159652, 382, 0, 5),
+        ],
+        mark: 128816,
+    }),
+    (2, Outcome {
+        turns: &[
+            Refused(NoneActive), Sent(3, 3, 1, 1535, Normal), Refused(NoneActive), Refused(NoneActive),
+            Refused(NoneActive), Refused(NoneActive), Refused(NoneActive), Refused(NoneActive),
+            Refused(NoneActive), Refused(NoneActive), Sent(2, 2, 2, 33, Normal),
+            Sent(2, 2, 3, 7, Normal), Refused(NoneActive), Sent(2, 2, 4, 100, Normal),
+            Sent(2, 2, 5, 7, Normal), Refused(NoneActive), Refused(NoneActive), Refused(NoneActive),
+            Refused(NoneActive), Refused(NoneActive), Nobody(3, 256), Nobody(3, 256), Nobody(1, 256),
+            Nobody(3, 256), Sent(0, 2, 11, 255, Extra), Sent(1, 0, 13, 255, Credit),
+            Sent(2, 0, 15, 33, Extra), Sent(0, 0, 16, 640, Normal), Sent(2, 1, 7, 640, Credit),
+            Sent(1, 1, 9, 7, Normal), Sent(1, 1, 10, 255, Kept), Sent(3, 1, 12, 7, Extra),
+            Sent(0, 0, 20, 33, Normal), Sent(3, 1, 17, 7, Extra), Sent(3, 1, 18, 7, Extra),
+            Sent(3, 1, 19, 1535, Extra), Nobody(1, 256), Nobody(1, 256), Nobody(1, 256),
+            Sent(0, 0, 26, 640, Normal), Sent(1, 1, 27, 640, Normal), Sent(0, 0, 30, 255, Normal),
+            Sent(0, 0, 31, 7, Normal), Sent(2, 1, 29, 7, Extra), Sent(2, 1, 32, 100, Extra),
+            Nobody(2, 256), Sent(0, 0, 33, 1, Normal), Sent(1, 0, 35, 640, Extra), Nobody(0, 256),
+            Nobody(0, 256), Nobody(0, 256), Nobody(0, 256), Nobody(0, 256), Sent(0, 1, 37, 7, Extra),
+            Sent(0, 2, 22, 255, Credit), Sent(0, 3, 6, 1535, Credit), Sent(2, 2, 23, 7, Normal),
+        ],
+        accounts: &[
+            (0, 134380, 0, 24616, 0), (1, 132308, -513, 32512, 0), (2, 128816, 131, 0, 5),
+            (3, 159652, 382, 0, 5),
+        ],
+        mark: 128816,
+    }),
+    (3, Outcome {
+        turns: &[
+            Refused(NoneActive), Sent(3, 3, 1, 1535, Normal), Refused(NoneActive), Refused(NoneActive),
+            Refused(NoneActive), Refused(NoneActive), Refused(NoneActive), Refused(NoneActive),
+            Refused(NoneActive), Refused(NoneActive), Sent(2, 2, 2, 33, Normal),
+            Sent(2, 2, 3, 7, Normal), Refused(NoneActive), Sent(2, 2, 4, 100, Normal),
+            Sent(2, 2, 5, 7, Normal), Refused(NoneActive), Refused(NoneActive), Refused(NoneActive),
+            Refused(NoneActive), Refused(NoneActive), Nobody(3, 256), Nobody(3, 256), Nobody(1, 256),
+            Nobody(3, 256), Sent(0, 2, 11, 255, Extra), Sent(1, 0, 13, 255, Credit),
+            Sent(2, 0, 15, 33, Extra), Sent(0, 0, 16, 640, Normal), Sent(2, 1, 7, 640, Credit),
+            Sent(1, 1, 9, 7, Normal), Sent(1, 1, 10, 255, Kept), Sent(3, 1, 12, 7, Extra),
+            Sent(0, 0, 20, 33, Normal), Sent(3, 1, 17, 7, Extra), Sent(3, 1, 18, 7, Extra),
+            Sent(3, 1, 19, 1535, Extra), Nobody(1, 256), Nobody(1, 256), Nobody(1, 256),
+            Sent(0, 0, 26, 640, Normal), Sent(1, 1, 27, 640, Normal), Sent(0, 0, 30, 255, Normal),
+            Sent(0, 0, 31, 7, Normal), Sent(2, 1, 29, 7, Extra), Sent(2, 1, 32, 100, Extra),
+            Nobody(2, 256), Sent(0, 0, 33, 1, Normal), Sent(1, 0, 35, 640, Extra), Nobody(0, 256),
+            Nobody(0, 256), Nobody(0, 256), Nobody(0, 256), Nobody(0, 256), Sent(0, 1, 37, 7, Extra),
+            Sent(0, 2, 22, 255, Credit), Sent(0, 3, 6, 1535, Credit), Sent(2, 2, 23, 7, Normal),
+        ],
+        accounts: &[
+            (0, 134380, 0, 36924, 0), (1, 132308, -513, 69472, 0), (2, 128816, 131, 0, 5),
+            (3, 159652, 382, 0, 5),
+        ],
+        mark: 128816,
+    }),
+    (4, Outcome {
+        turns: &[
+            Refused(NoneActive), Sent(3, 3, 1, 1535, Normal), Refused(NoneActive), Refused(NoneActive),
+            Refused(NoneActive), Refused(NoneActive), Refused(NoneActive), Refused(NoneActive),
+            Refused(NoneActive), Refused(NoneActive), Sent(2, 2, 2, 33, Normal),
+            Sent(2, 2, 3, 7, Normal), Refused(NoneActive), Sent(2, 2, 4, 100, Normal),
+            Sent(2, 2, 5, 7, Normal), Refused(NoneActive), Refused(NoneActive), Refused(NoneActive),
+            Refused(NoneActive), Refused(NoneActive), Nobody(3, 256), Nobody(3, 256), Nobody(1, 256),
+            Nobody(3, 256), Sent(0, 2, 11, 255, Extra), Sent(1, 0, 13, 255, Credit),
+            Sent(2, 0, 15, 33, Extra), Sent(0, 0, 16, 640, Normal), Sent(2, 1, 7, 640, Credit),
+            Sent(1, 1, 9, 7, Normal), Sent(1, 1, 10, 255, Normal), Sent(3, 1, 12, 7, Extra),
+            Sent(0, 0, 20, 33, Normal), Sent(3, 1, 17, 7, Extra), Sent(3, 1, 18, 7, Extra),
+            Sent(3, 1, 19, 1535, Extra), Nobody(1, 256), Nobody(1, 256), Nobody(1, 256),
+            Sent(0, 0, 26, 640, Normal), Sent(1, 1, 27, 640, Normal), Sent(0, 0, 30, 255, Normal),
+            Sent(0, 0, 31, 7, Normal), Sent(2, 1, 29, 7, Extra), Sent(2, 1, 32, 100, Extra),
+            Nobody(2, 256), Sent(0, 0, 33, 1, Normal), Sent(1, 0, 35, 640, Extra), Nobody(0, 256),
+            Nobody(0, 256), Nobody(0, 256), Nobody(0, 256), Nobody(0, 256), Sent(0, 1, 37, 7, Extra),
+            Sent(0, 2, 22, 255, Credit), Sent(0, 3, 6, 1535, Credit), Sent(2, 2, 23, 7, Normal),
+        ],
+        accounts: &[
+            (0, 134380, 0, 49232, 0), (1, 132308, -513, 90112, 0), (2, 128816, 131, 0, 5),
+            (3, 159652, 382, 0, 5),
+        ],
+        mark: 128816,
+    }),
 ];
 
 // Place 0 fades while nineteen others send in its turns; when its last frame goes, all twenty depart.
@@ -298,24 +348,27 @@ pub(crate) static TWENTY: [Step; 81] = [
 ];
 
 #[rattlefmt::skip]
-pub(crate) static TWENTY_TURNS: [Given; 39] = [
-    (0, 1, 101, 100, 'x'), (1, 64, 0, 256, 'i'), (0, 2, 102, 100, 'x'), (2, 64, 0, 256, 'i'),
-    (0, 3, 103, 100, 'x'), (3, 64, 0, 256, 'i'), (0, 4, 104, 100, 'x'), (4, 64, 0, 256, 'i'),
-    (0, 5, 105, 100, 'x'), (5, 64, 0, 256, 'i'), (0, 6, 106, 100, 'x'), (6, 64, 0, 256, 'i'),
-    (0, 7, 107, 100, 'x'), (7, 64, 0, 256, 'i'), (0, 8, 108, 100, 'x'), (8, 64, 0, 256, 'i'),
-    (0, 9, 109, 100, 'x'), (9, 64, 0, 256, 'i'), (0, 10, 110, 100, 'x'), (10, 64, 0, 256, 'i'),
-    (0, 11, 111, 100, 'x'), (11, 64, 0, 256, 'i'), (0, 12, 112, 100, 'x'), (12, 64, 0, 256, 'i'),
-    (0, 13, 113, 100, 'x'), (13, 64, 0, 256, 'i'), (0, 14, 114, 100, 'x'), (14, 64, 0, 256, 'i'),
-    (0, 15, 115, 100, 'x'), (15, 64, 0, 256, 'i'), (0, 16, 116, 100, 'x'), (16, 64, 0, 256, 'i'),
-    (0, 17, 117, 100, 'x'), (17, 64, 0, 256, 'i'), (0, 18, 118, 100, 'x'), (18, 64, 0, 256, 'i'),
-    (0, 19, 119, 100, 'x'), (19, 64, 0, 256, 'i'), (0, 0, 1, 50, 'n'),
-];
-
-#[rattlefmt::skip]
-pub(crate) static TWENTY_END: [Account; 20] = [
-    (0, 3900, 0, 0, 0), (1, 10240, 0, 20480, 0), (2, 10440, 0, 20480, 0), (3, 10640, 0, 20480, 0),
-    (4, 10840, 0, 20480, 0), (5, 11040, 0, 20480, 0), (6, 11240, 0, 20480, 0), (7, 11440, 0, 20480, 0),
-    (8, 11640, 0, 20480, 0), (9, 11840, 0, 20480, 0), (10, 12040, 0, 20480, 0), (11, 12240, 0, 20480, 0),
-    (12, 12440, 0, 20480, 0), (13, 12640, 0, 20480, 0), (14, 12840, 0, 20480, 0), (15, 13040, 0, 20480, 0),
-    (16, 13240, 0, 20480, 0), (17, 13440, 0, 20480, 0), (18, 13640, 0, 20480, 0), (19, 13840, 0, 20480, 0),
-];
+pub(crate) static TWENTY_OUTCOME: Outcome = Outcome {
+    turns: &[
+        Sent(0, 1, 101, 100, Extra), Nobody(1, 256), Sent(0, 2, 102, 100, Extra), Nobody(2, 256),
+        Sent(0, 3, 103, 100, Extra), Nobody(3, 256), Sent(0, 4, 104, 100, Extra), Nobody(4, 256),
+        Sent(0, 5, 105, 100, Extra), Nobody(5, 256), Sent(0, 6, 106, 100, Extra), Nobody(6, 256),
+        Sent(0, 7, 107, 100, Extra), Nobody(7, 256), Sent(0, 8, 108, 100, Extra), Nobody(8, 256),
+        Sent(0, 9, 109, 100, Extra), Nobody(9, 256), Sent(0, 10, 110, 100, Extra), Nobody(10, 256),
+        Sent(0, 11, 111, 100, Extra), Nobody(11, 256), Sent(0, 12, 112, 100, Extra), Nobody(12, 256),
+        Sent(0, 13, 113, 100, Extra), Nobody(13, 256), Sent(0, 14, 114, 100, Extra), Nobody(14, 256),
+        Sent(0, 15, 115, 100, Extra), Nobody(15, 256), Sent(0, 16, 116, 100, Extra), Nobody(16, 256),
+        Sent(0, 17, 117, 100, Extra), Nobody(17, 256), Sent(0, 18, 118, 100, Extra), Nobody(18, 256),
+        Sent(0, 19, 119, 100, Extra), Nobody(19, 256), Sent(0, 0, 1, 50, Normal),
+    ],
+    accounts: &[
+        (0, 3900, 0, 0, 0), (1, 10240, 0, 20480, 0), (2, 10440, 0, 20480, 0), (3, 10640, 0, 20480, 0),
+        (4, 10840, 0, 20480, 0), (5, 11040, 0, 20480, 0), (6, 11240, 0, 20480, 0),
+        (7, 11440, 0, 20480, 0), (8, 11640, 0, 20480, 0), (9, 11840, 0, 20480, 0),
+        (10, 12040, 0, 20480, 0), (11, 12240, 0, 20480, 0), (12, 12440, 0, 20480, 0),
+        (13, 12640, 0, 20480, 0), (14, 12840, 0, 20480, 0), (15, 13040, 0, 20480, 0),
+        (16, 13240, 0, 20480, 0), (17, 13440, 0, 20480, 0), (18, 13640, 0, 20480, 0),
+        (19, 13840, 0, 20480, 0),
+    ],
+    mark: 13840,
+};
