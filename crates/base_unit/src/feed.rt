@@ -1,7 +1,6 @@
 // One record of a recording: read, applied, and told of in a line.
-ghost use Rattle.std.specs.Prelude.{◌≡◌, ◌≤◌, length};
-ghost use Rattle.record.specs.Reading.{reading};
-ghost use Rattle.base_unit.specs.Feed.{told_fault, told_of, played, fed_answer, fed};
+ghost use Rattle.std.specs.Prelude.{◌≡◌};
+ghost use Rattle.base_unit.specs.Feed.{told_fault, told_of, fed_answer, fed};
 ghost use Rattle.base_unit.specs.View.{unit_view};
 
 use super::outs::Fed;
@@ -30,18 +29,8 @@ pub extern "C" fn dalgweniz_feed(
     if out.len() < LINE {
         return Refusal::BufferTooShort.number();
     }
-    *told = play(unit, number, bytes, out);
-    DONE
-}
-
-// The record, if it can be read.
-fn play(unit: &mut Unit, number: u64, bytes: &[u8], out: &mut [u8]) -> Fed
-    requires { 64 ≤ length out.old }
-    ensures after { unit_view unit.new ≡ (played (unit_view unit.old) number (reading number bytes.now) out.old).cell }
-    ensures line { out.new ≡ (played (unit_view unit.old) number (reading number bytes.now) out.old).buffer }
-    ensures told { result ≡ (played (unit_view unit.old) number (reading number bytes.now) out.old).told }
-{
-    match read(bytes, number) {
+    *told = match read(bytes, number) {
+        // the input has ended: the player stops
         Ok(None) => Fed {
             stop: 1,
             ..Fed::default()
@@ -61,7 +50,8 @@ fn play(unit: &mut Unit, number: u64, bytes: &[u8], out: &mut [u8]) -> Fed
                 ..Fed::from(fault)
             }
         }
-    }
+    };
+    DONE
 }
 
 // Told of a call: whatever the cell answers, the player goes on.
