@@ -1,4 +1,4 @@
-// What C reads an answer from. Flags are 0 or 1, so that every byte that may have stood there before is a value of the type.
+// What C reads an answer from. Kinds, layers and flags are numbers here, since C may have left any byte there before the call.
 
 // What an accepted turn answers; tag and sender are 0 where nobody sends.
 #[repr(C)]
