@@ -9,7 +9,8 @@ use Rattle.answer.specs.declared.refusal.Refusal.{Refusal}
 use Rattle.answer.specs.declared.refusal.Refusal.TheVariants.{TruncatedRecord, UnknownLetter, UnusedByteNotZero, NoteNotPrintable}
 use Rattle.record.specs.declared.event.Event.{Event}
 use Rattle.record.specs.declared.letter.Letter.{Letter}
-use Rattle.record.specs.Letters.{code, letter_of}
+use Rattle.answer.specs.Names.{code}
+use Rattle.record.specs.Letters.{letter_of}
 use Rattle.record.specs.Layout.{Contents, contents, decoded, unused, note_at, note_in, record_end}
 
 abbrev pub fault : Refusal → ℕ → ℕ → Fault

@@ -11,7 +11,6 @@ mod writer;
 
 pub use event::Event;
 pub use letter::Letter;
-pub use lines::{fault_line, line};
+pub use lines::{LINE, fault_line, line};
 pub use reader::read;
-pub use text::kind_byte;
 pub use writer::write;

@@ -9,7 +9,7 @@ use crate::text::{put_fault, put_line};
 use answer::{Answer, Refusal};
 
 // The room that the longest line has.
-const LINE: usize = 64;
+pub const LINE: usize = 64;
 
 // The line of an event and its result into the front of a buffer, and the line's length.
 pub fn line(

@@ -1,11 +1,11 @@
 // Text into a buffer, from a place on; each function answers the place after it.
 ghost use Rattle.std.specs.Prelude.{◌≡◌, ◌+◌, ◌≤◌, ◌++◌, length, take, codes, decimal};
 ghost use Rattle.record.specs.Layout.{contents};
-ghost use Rattle.record.specs.Lines.{fault_text, head_text, kind_byte, line_text, newline, refusal_text, result_text, sent_text, turn_text};
+ghost use Rattle.record.specs.Lines.{fault_text, head_text, line_text, newline, refusal_text, result_text, sent_text, turn_text};
 ghost use Rattle.record.specs.Putting.{Lined, Put};
 
 use crate::event::Event;
-use answer::{Answer, Kind, Refusal, Sent, Turn};
+use answer::{Answer, Refusal, Sent, Turn};
 
 fn put_bytes(out: &mut [u8], at: usize, bytes: &[u8]) -> usize
     requires { at + length bytes.now ≤ length out.old }
@@ -25,19 +25,6 @@ fn put_decimal(out: &mut [u8], at: usize, n: u64) -> usize
     } else {
         let next = put_decimal(out, at, n / 10);
         put_bytes(out, next, &[b'0' + (n % 10) as u8])
-    }
-}
-
-// The letter by which a line names the kind of a turn.
-pub fn kind_byte(kind: Kind) -> u8
-    ensures { result ≡ kind_byte kind }
-{
-    match kind {
-        Kind::Normal => b'n',
-        Kind::Credit => b'c',
-        Kind::Kept => b'k',
-        Kind::Extra => b'x',
-        Kind::Idle => b'i',
     }
 }
 
@@ -72,7 +59,7 @@ fn put_turn(out: &mut [u8], at: usize, turn: Turn) -> usize
     let sent = put_sent(out, first, turn.sent);
     let second = put_bytes(out, sent, b"/");
     let size = put_decimal(out, second, turn.length as u64);
-    put_bytes(out, size, &[b'/', kind_byte(turn.kind)])
+    put_bytes(out, size, &[b'/', u8::from(turn.kind)])
 }
 
 fn put_refusal(out: &mut [u8], at: usize, why: Refusal) -> usize

@@ -30,7 +30,7 @@ returns c =
     let text : ℕ → List ℕ = λ k. decimal t.chosen ++ (47 ∷ (sent_text t.sent ++ (47 ∷ (decimal t.length ++ (47 ∷ k ∷ []))))) in
     record {
       put =
-          retext (ap text c.kind_byte.ensures)
+          retext (ap text c.from.ensures)
           (chain c.put_decimal-chosen.ensures
           (chain c.put_bytes-first.ensures
           (chain c.put_sent-sent.ensures.put
