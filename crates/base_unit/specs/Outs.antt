@@ -1,5 +1,6 @@
 -- What stands in an out-struct after a call: the answer, or after a refusal what stood there before.
 use Rattle.std.specs.Prelude.{ℕ, Some, None, Ok, Err, Option, Result}
+use Rattle.answer.specs.Names.{kind_byte}
 use Rattle.answer.specs.declared.refusal.Refusal.{Refusal}
 use Rattle.answer.specs.declared.turn.Answer.{Answer}
 use Rattle.answer.specs.declared.turn.Answer.TheVariants.{Done, Turn as Turned}
@@ -7,7 +8,6 @@ use Rattle.answer.specs.declared.turn.Sent.{Sent}
 use Rattle.answer.specs.declared.turn.Turn.{Turn}
 use Rattle.cell.specs.declared.standing.Standing.{Standing}
 use Rattle.model.specs.Session.{Frame}
-use Rattle.record.specs.Lines.{kind_byte}
 use Rattle.base_unit.specs.Numbers.{flag}
 use Rattle.base_unit.specs.declared.outs.FrameOut.{FrameOut}
 use Rattle.base_unit.specs.declared.outs.StandingOut.{StandingOut}

@@ -7,10 +7,7 @@ use super::outs::Fed;
 use super::tell::DONE;
 use super::unit::Unit;
 use answer::{Answer, Fault, Layer, Refusal};
-use record::{fault_line, line, read};
-
-// The room that the longest line has.
-const LINE: usize = 64;
+use record::{LINE, fault_line, line, read};
 
 // Feeds a record to the cell; its line goes into the front of a buffer.
 #[unsafe(no_mangle)]

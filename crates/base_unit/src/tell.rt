@@ -7,7 +7,6 @@ use super::outs::{FrameOut, StandingOut, TurnOut};
 use answer::{Answer, Refusal, Sent, Turn};
 use cell::Standing;
 use queue::Frame;
-use record::kind_byte;
 
 pub(crate) const DONE: u8 = 0;
 
@@ -43,7 +42,7 @@ impl From<Turn> for TurnOut {
         let silent = TurnOut {
             length: turn.length,
             chosen: turn.chosen,
-            kind: kind_byte(turn.kind),
+            kind: u8::from(turn.kind),
             ..TurnOut::default()
         };
         match turn.sent {
