@@ -3,4 +3,4 @@ pub mod Scan
 pub mod Numbers
 pub mod Parsing
 pub mod Trips
-pub mod Pasting
+pub mod Putting

@@ -11,6 +11,7 @@ mod writer;
 
 pub use event::Event;
 pub use letter::Letter;
-pub use lines::{LINE, fault_line, line};
+pub use lines::{fault_line, line};
 pub use reader::read;
+pub use text::LINE;
 pub use writer::write;
