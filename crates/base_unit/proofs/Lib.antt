@@ -1,2 +1,1 @@
-pub mod Roomy
 pub mod Zeros

@@ -1,5 +1,6 @@
 -- What stands in an out-struct after a call: the answer, or after a refusal what stood there before.
 use Rattle.std.specs.Prelude.{ℕ, Some, None, Ok, Err, Option, Result}
+use Rattle.answer.specs.Names.{kind_byte}
 use Rattle.answer.specs.declared.refusal.Refusal.{Refusal}
 use Rattle.answer.specs.declared.turn.Answer.{Answer}
 use Rattle.answer.specs.declared.turn.Answer.TheVariants.{Done, Turn as Turned}
@@ -7,11 +8,14 @@ use Rattle.answer.specs.declared.turn.Sent.{Sent}
 use Rattle.answer.specs.declared.turn.Turn.{Turn}
 use Rattle.cell.specs.declared.standing.Standing.{Standing}
 use Rattle.model.specs.Session.{Frame}
-use Rattle.record.specs.Lines.{kind_byte}
 use Rattle.base_unit.specs.Numbers.{flag}
 use Rattle.base_unit.specs.declared.outs.FrameOut.{FrameOut}
 use Rattle.base_unit.specs.declared.outs.StandingOut.{StandingOut}
 use Rattle.base_unit.specs.declared.outs.TurnOut.{TurnOut}
+
+abbrev pub left : {X Y : Type 0} → (X → Y) → Result X Refusal → Y → Y
+left out (Ok x) before = out x
+left out (Err why) before = before
 
 -- without a sender, sender and tag are 0
 abbrev pub sent_out : Turn → Option Sent → TurnOut
@@ -39,16 +43,14 @@ standing_out s = record {
 }
 
 abbrev pub standing_left : Result Standing Refusal → StandingOut → StandingOut
-standing_left (Ok s) before = standing_out s
-standing_left (Err why) before = before
+standing_left = left standing_out
 
 abbrev pub frame_out : Option Frame → FrameOut
 frame_out None = record { tag = 0; length = 0; there = 0 }
 frame_out (Some f) = record { tag = f.tag; length = f.length; there = 1 }
 
 abbrev pub frame_left : Result (Option Frame) Refusal → FrameOut → FrameOut
-frame_left (Ok f) before = frame_out f
-frame_left (Err why) before = before
+frame_left = left frame_out
 
 abbrev pub count_left : Option ℕ → ℕ → ℕ
 count_left (Some n) before = n

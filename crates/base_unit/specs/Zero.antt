@@ -1,6 +1,6 @@
 -- Memory that is all zero is a cell: the new one with keep 0.
 use Rattle.std.specs.Prelude.{◌≡◌, false, length, replicate, pos}
-use Rattle.std.specs.List.{AllByRecursion}
+use Rattle.std.specs.List.{All}
 use Rattle.least_served.specs.Served.{unserved}
 use Rattle.model.specs.Calls.{new}
 use Rattle.queue.specs.Ring.{no_frame}
@@ -24,7 +24,7 @@ pub record ZeroRow (r : Row) : Type 0 where
 
 pub record Zero (u : Unit) : Type 0 where
   pub size : length u.rows ≡ 64
-  pub rows : AllByRecursion ZeroRow u.rows
+  pub rows : All ZeroRow u.rows
   pub mark : u.mark ≡ 0
   pub turns : u.turns ≡ 0
   pub keep : u.keep ≡ 0

@@ -9,9 +9,10 @@ ghost use Rattle.base_unit.specs.Outs.{standing_left, frame_left, count_left};
 ghost use Rattle.base_unit.specs.View.{unit_view};
 
 use super::outs::{FrameOut, StandingOut};
-use super::tell::{DONE, frame_out, standing_out};
+use super::tell::give;
 use super::unit::Unit;
 use answer::Refusal;
+use cell::Cell;
 use chooser::Line;
 use std::mem::size_of;
 
@@ -21,13 +22,7 @@ pub extern "C" fn dalgweniz_session(unit: &Unit, place: u8, out: &mut StandingOu
     ensures answer { result ≡ number_told (asked (unit_view unit.now) place) }
     ensures standing { out.new ≡ standing_left (standings (asked (unit_view unit.now) place)) out.old }
 {
-    match unit.cell().session(place) {
-        Ok(standing) => {
-            *out = standing_out(standing);
-            DONE
-        }
-        Err(why) => why.number(),
-    }
+    give(Cell::from(unit).session(place), out)
 }
 
 // The i-th frame, from 0, that waits at an open place.
@@ -36,13 +31,7 @@ pub extern "C" fn dalgweniz_frame(unit: &Unit, place: u8, i: usize, out: &mut Fr
     ensures answer { result ≡ number_told (asked (unit_view unit.now) place) }
     ensures frame { out.new ≡ frame_left (frames (asked (unit_view unit.now) place) i) out.old }
 {
-    match unit.cell().frame(place, i) {
-        Ok(frame) => {
-            *out = frame_out(frame);
-            DONE
-        }
-        Err(why) => why.number(),
-    }
+    give(Cell::from(unit).frame(place, i), out)
 }
 
 // The service that a place has had from the credit list, or from the extra list.
@@ -51,19 +40,9 @@ pub extern "C" fn dalgweniz_count(unit: &Unit, extra: bool, place: u8, out: &mut
     ensures answer { result ≡ count_told (asked_count (unit_view unit.now).chooser (list_of extra) place) }
     ensures count { out.new ≡ count_left (asked_count (unit_view unit.now).chooser (list_of extra) place) out.old }
 {
-    match unit.chooser.count(list(extra), usize::from(place)) {
-        Some(count) => {
-            *out = count;
-            DONE
-        }
-        None => Refusal::PlaceTooHigh.number(),
-    }
-}
-
-fn list(extra: bool) -> Line
-    ensures { result ≡ list_of extra }
-{
-    if extra { Line::Extra } else { Line::Credit }
+    let line = if extra { Line::Extra } else { Line::Credit };
+    let count = unit.chooser.count(line, usize::from(place));
+    give(count.ok_or(Refusal::PlaceTooHigh), out)
 }
 
 // The virtual time that the cell has come to.
@@ -79,7 +58,7 @@ pub extern "C" fn dalgweniz_mark(unit: &Unit) -> u64
 pub extern "C" fn dalgweniz_booked(unit: &Unit) -> u32
     ensures { result ≡ booked_total (unit_view unit.now).table }
 {
-    unit.cell().booked()
+    Cell::from(unit).booked()
 }
 
 // How many turns the cell has accepted.

@@ -10,40 +10,28 @@ ghost use Rattle.base_unit.specs.View.{unit_view};
 ghost use Rattle.base_unit.specs.Zero.{ZeroIsNew};
 
 use super::outs::TurnOut;
-use super::tell::{DONE, told, turn_out};
+use super::tell::{give, told};
 use super::unit::Unit;
 use answer::Answer;
 use cell::Cell;
 use least_served::LeastServed;
 use record::Event;
 
-// No record told of the event.
+// No record told of the event. (A closure over the cell in place of an event left both goals of each call open.)
 const NO_NOTE: &[u8] = b"";
 
 // A new cell in place of what was there, for which all zero will do: that is a cell too. Whatever is called on it from here on, it
 // keeps its promises.
 #[unsafe(no_mangle)]
+#[tactic(auto, using(crate::proofs::Zeros::zero_is_new))]
 pub extern "C" fn dalgweniz_make(unit: &mut Unit, keep: u8) -> u8
     ensures answer { result ≡ made_answer keep }
     ensures after { unit_view unit.new ≡ made_unit keep (unit_view unit.old) }
     ensures promises { Promises least }
     ensures zero { ZeroIsNew }
 {
-    make(unit, keep)
-}
-
-fn make(unit: &mut Unit, keep: u8) -> u8
-    ensures answer { result ≡ made_answer keep }
-    ensures after { unit_view unit.new ≡ made_unit keep (unit_view unit.old) }
-    ensures promises { Promises least }
-{
-    match Cell::new(keep, LeastServed::new()) {
-        Ok(cell) => {
-            unit.put(cell);
-            DONE
-        }
-        Err(unmade) => unmade.why.number(),
-    }
+    let made = Cell::new(keep, LeastServed::new());
+    give(made.map_err(|unmade| unmade.why), unit)
 }
 
 // Opens a place at a rate of the tariff.
@@ -91,17 +79,12 @@ pub extern "C" fn dalgweniz_report(unit: &mut Unit, place: u8, good: bool) -> u8
     ensures answer { result ≡ number_told (step least (unit_view unit.old) (report place good)).answer }
     ensures after { unit_view unit.new ≡ (step least (unit_view unit.old) (report place good)).cell }
 {
-    if good {
-        told(unit.call(Event::Good {
-            place,
-            note: NO_NOTE,
-        }))
+    let note = NO_NOTE;
+    told(unit.call(if good {
+        Event::Good { place, note }
     } else {
-        told(unit.call(Event::Bad {
-            place,
-            note: NO_NOTE,
-        }))
-    }
+        Event::Bad { place, note }
+    }))
 }
 
 // One turn: the chosen session sends, or hands the turn on, and pays for it.
@@ -113,7 +96,7 @@ pub extern "C" fn dalgweniz_turn(unit: &mut Unit, out: &mut TurnOut) -> u8
 {
     let answer = unit.call(Event::Turn { note: NO_NOTE });
     if let Ok(Answer::Turn(turn)) = answer {
-        *out = turn_out(turn);
+        *out = TurnOut::from(turn);
     }
     told(answer)
 }

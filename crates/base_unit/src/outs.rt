@@ -1,8 +1,8 @@
-// What C reads an answer from. Flags are 0 or 1, so that every byte that may have stood there before is a value of the type.
+// What C reads an answer from. Kinds, layers and flags are numbers here, since C may have left any byte there before the call.
 
 // What an accepted turn answers; tag and sender are 0 where nobody sends.
 #[repr(C)]
-#[derive(Clone, Copy)]
+#[derive(Clone, Copy, Default)]
 pub struct TurnOut {
     pub tag: u32,
     pub length: u16,
@@ -15,7 +15,7 @@ pub struct TurnOut {
 
 // What became of a record.
 #[repr(C)]
-#[derive(Clone, Copy)]
+#[derive(Clone, Copy, Default)]
 pub struct Fed {
     // the bytes of its line
     pub line: usize,
@@ -29,7 +29,7 @@ pub struct Fed {
 
 // How the session of an open place stands.
 #[repr(C)]
-#[derive(Clone, Copy)]
+#[derive(Clone, Copy, Default)]
 pub struct StandingOut {
     pub virtual_time: u64,
     pub lag: i64,
@@ -43,7 +43,7 @@ pub struct StandingOut {
 
 // A frame that waits; tag and length are 0 where there is none.
 #[repr(C)]
-#[derive(Clone, Copy)]
+#[derive(Clone, Copy, Default)]
 pub struct FrameOut {
     pub tag: u32,
     pub length: u16,

@@ -13,40 +13,50 @@ use least_served::LeastServed;
 use record::Event;
 use replay::call;
 
+impl From<&Unit> for Cell<LeastServed> {
+    ghost from_gives = { λ unit cell. view cell ≡ unit_view unit.now };
+
+    fn from(unit: &Unit) -> Cell<LeastServed> {
+        Cell {
+            rows: unit.rows,
+            mark: unit.mark,
+            turns: unit.turns,
+            keep: unit.keep,
+            chooser: unit.chooser,
+        }
+    }
+}
+
+impl From<Cell<LeastServed>> for Unit {
+    ghost from_gives = { λ cell unit. unit_view unit ≡ view cell };
+
+    fn from(cell: Cell<LeastServed>) -> Unit {
+        let Cell {
+            rows,
+            mark,
+            turns,
+            keep,
+            chooser,
+        } = cell;
+        Unit {
+            rows,
+            mark,
+            turns,
+            keep,
+            chooser,
+        }
+    }
+}
+
 impl Unit {
     // Makes the call that an event stands for.
     pub(crate) fn call(&mut self, event: Event) -> Result<Answer, Refusal>
         ensures answer { result ≡ (step least (unit_view self.old) (call_of event.entry)).answer }
         ensures after { unit_view self.new ≡ (step least (unit_view self.old) (call_of event.entry)).cell }
     {
-        let mut cell = self.cell();
+        let mut cell = Cell::from(&*self);
         let result = call(&mut cell, event);
-        self.put(cell);
+        *self = Unit::from(cell);
         result
-    }
-
-    pub(crate) fn cell(&self) -> Cell<LeastServed>
-        ensures { view result ≡ unit_view self.now }
-    {
-        Cell {
-            rows: self.rows,
-            mark: self.mark,
-            turns: self.turns,
-            keep: self.keep,
-            chooser: self.chooser,
-        }
-    }
-
-    pub(crate) fn put(&mut self, cell: Cell<LeastServed>)
-        ensures { unit_view self.new ≡ view cell }
-    {
-        let rows = cell.rows;
-        *self = Unit {
-            rows,
-            mark: cell.mark,
-            turns: cell.turns,
-            keep: cell.keep,
-            chooser: cell.chooser,
-        };
     }
 }

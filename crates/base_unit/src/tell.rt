@@ -1,13 +1,12 @@
-// Answers in C's terms.
-ghost use Rattle.std.specs.Prelude.{◌≡◌};
-ghost use Rattle.base_unit.specs.Numbers.{number_told, flag, layer_number};
+// Answers in C's terms: plain numbers, and structs of them.
+ghost use Rattle.std.specs.Prelude.{◌≡◌, OnErr, IfOk};
+ghost use Rattle.base_unit.specs.Numbers.{number_told};
 ghost use Rattle.base_unit.specs.Outs.{turn_out, frame_out, standing_out};
 
 use super::outs::{FrameOut, StandingOut, TurnOut};
-use answer::{Answer, Layer, Refusal, Sent, Turn};
+use answer::{Answer, Refusal, Sent, Turn};
 use cell::Standing;
 use queue::Frame;
-use record::kind_byte;
 
 pub(crate) const DONE: u8 = 0;
 
@@ -21,73 +20,71 @@ pub(crate) fn told(res: Result<Answer, Refusal>) -> u8
     }
 }
 
-pub(crate) fn layer_number(layer: Layer) -> u8
-    ensures { result ≡ layer_number layer }
+// The same, with what was answered left in C's memory; a refusal leaves what stood there.
+pub(crate) fn give<T, O: From<T> + Drop>(res: Result<T, Refusal>, out: &mut O) -> u8
+    ensures told { result ≡ number_told res }
+    ensures given { IfOk res (λ x. O.from_gives x out.new) }
+    ensures kept { OnErr res (out.new ≡ out.old) }
 {
-    match layer {
-        Layer::Record => 0,
-        Layer::Cell => 1,
+    match res {
+        Ok(x) => {
+            *out = O::from(x);
+            DONE
+        }
+        Err(why) => why.number(),
     }
 }
 
-pub(crate) fn turn_out(turn: Turn) -> TurnOut
-    ensures { result ≡ turn_out turn }
-{
-    let kind = kind_byte(turn.kind);
-    match turn.sent {
-        None => TurnOut {
-            tag: 0,
+impl From<Turn> for TurnOut {
+    ghost from_gives = { λ turn out. out ≡ turn_out turn };
+
+    fn from(turn: Turn) -> TurnOut {
+        let silent = TurnOut {
             length: turn.length,
             chosen: turn.chosen,
-            sent: 0,
-            sender: 0,
-            kind,
-        },
-        Some(Sent { sender, tag }) => TurnOut {
-            tag,
-            length: turn.length,
-            chosen: turn.chosen,
-            sent: 1,
-            sender,
-            kind,
-        },
+            kind: u8::from(turn.kind),
+            ..TurnOut::default()
+        };
+        match turn.sent {
+            None => silent,
+            Some(Sent { sender, tag }) => TurnOut {
+                tag,
+                sent: 1,
+                sender,
+                ..silent
+            },
+        }
     }
 }
 
-pub(crate) fn frame_out(frame: Option<Frame>) -> FrameOut
-    ensures { result ≡ frame_out frame }
-{
-    match frame {
-        None => FrameOut {
-            tag: 0,
-            length: 0,
-            there: 0,
-        },
-        Some(Frame { tag, length }) => FrameOut {
-            tag,
-            length,
-            there: 1,
-        },
+impl From<Option<Frame>> for FrameOut {
+    ghost from_gives = { λ frame out. out ≡ frame_out frame };
+
+    fn from(frame: Option<Frame>) -> FrameOut {
+        match frame {
+            None => FrameOut::default(),
+            Some(Frame { tag, length }) => FrameOut {
+                tag,
+                length,
+                there: 1,
+            },
+        }
     }
 }
 
-pub(crate) fn standing_out(s: Standing) -> StandingOut
-    ensures { result ≡ standing_out s }
-{
-    StandingOut {
-        virtual_time: s.virtual_time,
-        lag: s.lag,
-        allowance: s.allowance,
-        waiting: s.waiting,
-        rate: s.rate,
-        price: s.price,
-        good: flag(s.good),
-        active: flag(s.active),
-    }
-}
+impl From<Standing> for StandingOut {
+    ghost from_gives = { λ standing out. out ≡ standing_out standing };
 
-fn flag(b: bool) -> u8
-    ensures { result ≡ flag b }
-{
-    if b { 1 } else { 0 }
+    fn from(s: Standing) -> StandingOut {
+        StandingOut {
+            virtual_time: s.virtual_time,
+            lag: s.lag,
+            allowance: s.allowance,
+            waiting: s.waiting,
+            rate: s.rate,
+            price: s.price,
+            good: u8::from(s.good),
+            active: u8::from(s.active),
+        }
+    }
 }

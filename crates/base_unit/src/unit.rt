@@ -5,7 +5,7 @@ ghost use Rattle.table.specs.Places.{table_of};
 use least_served::LeastServed;
 use session::Row;
 
-// The parts of a cell whose chooser is least served, in C's layout: C takes no generic struct.
+// The parts of a `Cell<LeastServed>` in C's layout: C takes no generic struct, nor one that holds one.
 #[repr(C)]
 #[derive(Drop)]
 pub struct Unit {

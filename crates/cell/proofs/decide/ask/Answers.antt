@@ -1,6 +1,6 @@
 use Rattle.std.proofs.Common.{Bool, List, None, sym, ap, ◌∙◌}
 use Rattle.model.specs.Lists.{Entry, stayed}
-use Rattle.model.specs.Meaning.{meaning}
+use Rattle.model.specs.Meaning.{meant}
 use Rattle.table.specs.Places.{table_of}
 use Rattle.cell.specs.Picks.{picked_from}
 use Rattle.cell.proofs.Asking.{stayed_members}
@@ -13,6 +13,6 @@ returns g c =
     let line = c.args.line in
     let now = c.args.chooser.now in
     let table = table_of c.args.rows.now in
-    let M = meaning g.C.Chooser.pick g.C.Chooser.after_served g.C.Chooser.after_joined g.C.Chooser.after_cleared in
+    let M = meant g.C.Chooser in
     let offered = c.offer-offer.ensures ∙ ap (λ (bs : List Bool). stayed line bs table) c.requires.members ∙ stayed_members line table in
     c.ask.ensures ∙ sym (if_sound_is None (g.C.Chooser.pick now line) c.offer-offer.result) ∙ ap (λ (es : List Entry). M.pick now line es) offered

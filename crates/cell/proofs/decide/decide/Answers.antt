@@ -1,6 +1,6 @@
 use Rattle.std.proofs.Common.{sym, ap, ◌∙◌, arith}
 use Rattle.model.specs.Lists.{Credit, Extra}
-use Rattle.model.specs.Meaning.{meaning}
+use Rattle.model.specs.Meaning.{meant}
 use Rattle.model.specs.Session.{Session}
 use Rattle.model.specs.Turn.{way_of}
 use Rattle.table.specs.Places.{table_of}
@@ -12,7 +12,7 @@ pub returns : goal.returns
 unfolding picked_from
 returns g c =
     let rows = c.args.rows.now in
-    let M = meaning g.C.Chooser.pick g.C.Chooser.after_served g.C.Chooser.after_joined g.C.Chooser.after_cleared in
+    let M = meant g.C.Chooser in
     let picked = picked_from M c.args.chooser.now in
     c.way_of.ensures
     ∙ sym (ap (λ (s : Session). way_of s (picked Credit (table_of rows)) (picked Extra (table_of rows))) (at_table rows c.args.chosen c.index-rows-chosen.result (omega arith)))

@@ -1,19 +1,15 @@
 use Rattle.std.proofs.Common.{◌+◌, false, not, ◌&&◌, get_or, sym, ap, ◌∙◌, arith}
 use Rattle.std.proofs.lemmas.Bool.{cond-true, cond-false}
 use Rattle.model.specs.Cell.{told, joins}
-use Rattle.model.specs.Meaning.{Meaning, meaning}
+use Rattle.model.specs.Meaning.{meant}
 use Rattle.table.specs.Places.{table_of}
 use Rattle.cell.proofs.Telling.{if_sound_is, told_more, told_all, Left}
-use Rattle.cell.proofs.settle.tell_each.Given as given
 use Rattle.cell.proofs.settle.tell_each.Goals as goal
 use Rattle.cell.proofs.settle.tell_each.Goals.{then-before-i, else-before-i}
 
-abbrev meant : (g : given.Over) → Meaning g.row.C.Denot
-meant g = meaning g.C.Chooser.pick g.C.Chooser.after_served g.C.Chooser.after_joined g.C.Chooser.after_cleared
-
 pub loop-i-preserved : goal.loop-i-preserved
 loop-i-preserved g c =
-    let M = meant g in
+    let M = meant g.C.Chooser in
     let line = c.args.line in
     let before = c.args.before.now in
     let rows = c.args.rows.now in
@@ -34,7 +30,7 @@ loop-i-preserved g c =
 pub returns : goal.returns
 unfolding joins
 returns g c =
-    let M = meant g in
+    let M = meant g.C.Chooser in
     let line = c.args.line in
     let before = c.args.before.now in
     let rows = c.args.rows.now in

@@ -4,29 +4,22 @@ use Rattle.model.specs.Calls.{heard}
 use Rattle.model.specs.Cell.{joins, mark_from, mark_after, all_joins}
 use Rattle.model.specs.Departures.{departures}
 use Rattle.model.specs.Lists.{Credit, Extra}
-use Rattle.model.specs.Meaning.{Meaning, Lawful, meaning}
+use Rattle.model.specs.Meaning.{meant}
 use Rattle.model.specs.Table.{Table, least, greatest}
 use Rattle.model.specs.Turn.{Way, answer_of, turned}
 use Rattle.table.specs.Places.{table_of}
 use Rattle.cell.specs.Ways.{way_as, only}
 use Rattle.cell.specs.declared.before.Before.{Before}
 use Rattle.cell.proofs.Passing.{chosen_inside, can_offer, has_room, sender_inside, handed_inside, handed_other, midway, can_offer_after, heard_after}
-use Rattle.cell.proofs.turn.pass.Given as given
 use Rattle.cell.proofs.turn.pass.Goals as goal
-
-abbrev meant : (g : given.Over) → Meaning g.row.C.Denot
-meant g = meaning g.C.Chooser.pick g.C.Chooser.after_served g.C.Chooser.after_joined g.C.Chooser.after_cleared
-
-law : (g : given.Over) → Lawful (meant g)
-law g = lawful g.C.Chooser.pick g.C.Chooser.after_served g.C.Chooser.after_joined g.C.Chooser.after_cleared g.met.C.Chooser.picks
 
 pub decide-way-requires : goal.decide-way-requires
 decide-way-requires g c =
     let t = table_of c.args.rows.now in
     let ch = c.args.chooser.now in
     record {
-      inside = chosen_inside (meant g) (law g) _ _ t ch _ c.requires;
-      fair = can_offer (meant g) (law g) _ _ t ch _ c.requires;
+      inside = chosen_inside (meant g.C.Chooser) (lawful g.C.Chooser g.met.C.Chooser.picks) _ _ t ch _ c.requires;
+      fair = can_offer (meant g.C.Chooser) (lawful g.C.Chooser g.met.C.Chooser.picks) _ _ t ch _ c.requires;
       found = c.look-before.ensures;
     }
 
@@ -37,30 +30,30 @@ carry_out-turn-requires g c =
     let way = way_as c.decide-way.result in
     let is = c.decide-way.ensures in
     record {
-      chosen = chosen_inside (meant g) (law g) _ _ t ch _ c.requires;
-      sender = sender_inside (meant g) (law g) _ _ t ch _ c.requires way is;
-      other = handed_other (meant g) (law g) _ _ t ch _ c.requires way is;
-      room = has_room (meant g) (law g) _ _ t ch _ c.requires;
+      chosen = chosen_inside (meant g.C.Chooser) (lawful g.C.Chooser g.met.C.Chooser.picks) _ _ t ch _ c.requires;
+      sender = sender_inside (meant g.C.Chooser) (lawful g.C.Chooser g.met.C.Chooser.picks) _ _ t ch _ c.requires way is;
+      other = handed_other (meant g.C.Chooser) (lawful g.C.Chooser g.met.C.Chooser.picks) _ _ t ch _ c.requires way is;
+      room = has_room (meant g.C.Chooser) (lawful g.C.Chooser g.met.C.Chooser.picks) _ _ t ch _ c.requires;
     }
 
 pub tell_served-requires : goal.tell_served-requires
 tell_served-requires g c =
-    handed_inside (meant g) (law g) _ _ (table_of c.args.rows.now) c.args.chooser.now _ c.requires (way_as c.decide-way.result) c.decide-way.ensures
+    handed_inside (meant g.C.Chooser) (lawful g.C.Chooser g.met.C.Chooser.picks) _ _ (table_of c.args.rows.now) c.args.chooser.now _ c.requires (way_as c.decide-way.result) c.decide-way.ensures
 
 pub leave-requires : goal.leave-requires
 leave-requires g c =
-    midway (meant g) (law g) _ _ (table_of c.args.rows.now) c.args.chooser.now _ c.requires (way_as c.decide-way.result) c.decide-way.ensures
+    midway (meant g.C.Chooser) (lawful g.C.Chooser g.met.C.Chooser.picks) _ _ (table_of c.args.rows.now) c.args.chooser.now _ c.requires (way_as c.decide-way.result) c.decide-way.ensures
     c.carry_out-turn.result c.carry_out-turn.ensures.answer _ c.carry_out-turn.ensures.after
 
 pub settle-requires : goal.settle-requires
 settle-requires g c =
-    can_offer_after (meant g) (law g) _ _ (table_of c.args.rows.now) c.args.chooser.now _ c.requires (way_as c.decide-way.result) c.decide-way.ensures
+    can_offer_after (meant g.C.Chooser) (lawful g.C.Chooser g.met.C.Chooser.picks) _ _ (table_of c.args.rows.now) c.args.chooser.now _ c.requires (way_as c.decide-way.result) c.decide-way.ensures
     c.carry_out-turn.result c.carry_out-turn.ensures.answer _ _ c.carry_out-turn.ensures.after c.leave.ensures
 
 pub returns : goal.returns
 unfolding mark_after all_joins
 returns g c =
-    let M = meant g in
+    let M = meant g.C.Chooser in
     let t = table_of c.args.rows.now in
     let ch = c.args.chooser.now in
     let keep = c.args.keep in

@@ -9,5 +9,5 @@ returns g c = record {
   back = c.vacant.ensures.back;
   promises =
       promises _
-      (lawful g.C.Chooser.pick g.C.Chooser.after_served g.C.Chooser.after_joined g.C.Chooser.after_cleared g.met.C.Chooser.picks);
+      (lawful g.C.Chooser g.met.C.Chooser.picks);
 }
