@@ -24,10 +24,10 @@ picked_inside es s r h place e = offered_inside es s place (subst (PicksOffered 
 
 -- the least of a row that a closure filled with the key of each place is the pick
 pub row_pick : {K F : Type 0} (before : K → K → Bool) (es : List (Option Entry)) (key : ℕ → K) (g : Mut F (ℕ × Unit {0}) (Option K)) (f : F)
-    → ((k : ℕ) (x : Option K) (q : F) → Called g f (k, tt) x q → (q ≡ f) × (x ≡ key_at (offered_at es) key k))
+    → ((k : ℕ) → k < 64 → (x : Option K) (q : F) → Called g f (k, tt) x q → (q ≡ f) × (x ≡ key_at (offered_at es) key k))
     → (row : List (Option K)) → IsFromFnResult g f row 64 → (r : Option ℕ) → r ≡ least_of before row → r ≡ first_by before key es
-row_pick before es key g f each row made r is =
-    is ∙ ap (least_of before) (row_is before 64 (offered_at es) key row made.long (λ k h. made_at g f row _ each 64 made k None h))
+row_pick before es key g f gives row made r is =
+    is ∙ ap (least_of before) (row_is before 64 (offered_at es) key row made.long (λ k h. made_at g f row _ 64 gives made k None h))
 
 module _ {K : Type 0} {before : K → K → Bool} (order : Order before) (es : List (Option Entry)) (s : sound es ≡ true) (key : ℕ → K) where
   picks_first_from : (r : Option ℕ) → First before 64 (offered_at es) key r → PicksFirst before key es r

@@ -9,5 +9,5 @@ pub returns : goal.returns
 returns c =
     let o = c.args.offer.now in
     let made = c.from_fn-debts.ensures.items in
-    let value = row_pick debt_before o.entries (debt_key o.entries) _ _ (λ k x q call. search rules) _ made _ c.least.ensures.found in
+    let value = row_pick debt_before o.entries (debt_key o.entries) _ _ (λ k l x q call. search rules) _ made _ c.least.ensures.found in
     record { value = value; largest = subst (PicksLargest o.entries) (sym value) (picks_largest o.entries o.ok) }

@@ -11,5 +11,5 @@ returns c =
     let line = c.args.line in
     let o = c.args.offer.now in
     let made = c.from_fn-counts.ensures.items in
-    let value = row_pick count_before o.entries (count_key s line) _ _ (λ k x q call. search rules) _ made _ c.least.ensures.found in
+    let value = row_pick count_before o.entries (count_key s line) _ _ (λ k l x q call. search rules) _ made _ c.least.ensures.found in
     record { value = value; least = subst (PicksLeastServed s line o.entries) (sym value) (picks_least_served s line o.entries o.ok) }
