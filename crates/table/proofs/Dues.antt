@@ -59,9 +59,9 @@ pub search_is : (t : Table) (r : Option ℕ) → Least time_before (map time_key
 search_is t None h = none_chosen t (chosen t) refl h
 search_is t (Some i) h = sym (next_chosen t i (least_next t i h.0 h.1))
 
-pub chosen_inside : (t : Table) (o : Option ℕ) → o ≡ chosen t → IfSome o (λ i. i < length t)
-chosen_inside t None e = tt
-chosen_inside t (Some c) e = (chosen_next t c (sym e)).inside
+pub chosen_inside : (t : Table) (o : Option ℕ) → length t ≡ 64 → o ≡ chosen t → IfSome o (λ i. i < 64)
+chosen_inside t None n e = tt
+chosen_inside t (Some c) n e = omega (arith, (chosen_next t c (sym e)).inside)
 
 -- ---- and who is due has the smallest virtual time
 

@@ -9,9 +9,5 @@ use session::Row;
 pub fn booked_total(rows: &[Row; 64]) -> u64
     ensures { result ≡ booked_total (table_of rows.now) }
 {
-    let mut sum = 0;
-    for i in 0..64usize {
-        sum += u64::from(rows[i].rate);
-    }
-    sum
+    rows.iter().map(|row| u64::from(row.rate)).sum()
 }

@@ -1,14 +1,12 @@
-use Rattle.std.proofs.Common.{arith}
-use Rattle.model.specs.Table.{greatest}
-use Rattle.table.proofs.Tables.{left_more, left_all}
+use Rattle.std.proofs.Common.{max, rules, tests, arith}
+use Rattle.std.proofs.lemmas.Iterator.{YieldsList-from_slice}
+use Rattle.std.proofs.lemmas.Iterator.Consumers.{fold_from_yields_List}
+use Rattle.session.specs.declared.row.Row.{Row}
+use Rattle.table.proofs.Chains.{greatest_of}
 use Rattle.table.proofs.times.latest_time.Goals as goal
 
-pub loop-i-preserved : goal.loop-i-preserved
-unfolding greatest
-loop-i-preserved c =
-    let more = left_more greatest c.args.rows.now c.loop-i.i c.index-rows-i.result (omega arith) in
-    omega (arith, more, c.max-last.ensures, c.loop-i.invariant)
-
 pub returns : goal.returns
-unfolding greatest
-returns c = omega (arith, left_all greatest c.args.rows.now c.loop-i.i (omega arith), c.loop-i.invariant)
+returns c =
+    let rows = c.args.rows.now in
+    let folds = fold_from_yields_List _ (λ m (r : Row). max m r.virtual_time) 0 c.fold.result c.fold.ensures.ran (YieldsList-from_slice rows cc) (λ a x b q k. search (rules, tests)) in
+    omega (arith, folds, greatest_of rows 0)
