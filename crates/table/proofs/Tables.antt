@@ -1,6 +1,6 @@
 -- Rows and the table that they stand for, place by place.
-use Rattle.std.proofs.Common.{◌≡◌, ℕ, ◌+◌, ◌<◌, ◌≤◌, List, [], ◌∷◌, map, length, get_or, drop, set, Some, None, Option, sym, refl, ap, ◌∙◌, arith}
-use Rattle.std.proofs.lemmas.List.{length-map, get_or-map, map-set, at_drop_more, at_drop_all}
+use Rattle.std.proofs.Common.{◌≡◌, ℕ, ◌+◌, ◌<◌, List, ◌∷◌, map, length, get_or, drop, set, Some, None, Option, sym, refl, ap, ◌∙◌, arith}
+use Rattle.std.proofs.lemmas.List.{length-map, get_or-map, map-set, at_drop_more}
 use Rattle.std.specs.Option.{option_map}
 use Rattle.chooser.specs.Places.{numbers}
 use Rattle.chooser.specs.declared.place.Place.{Place}
@@ -36,9 +36,6 @@ pub left_more : {Y : Type 0} (F : Table → Y) (rows : List Row) (i : ℕ) (d : 
 left_more F rows i d l =
     let m : i < length (table_of rows) = omega (arith, length_table rows) in
     at_drop_more F (table_of rows) i vacant m ∙ ap (λ s. F (s ∷ drop (i + 1) (table_of rows))) (getD_table rows i d vacant l)
-
-pub left_all : {Y : Type 0} (F : Table → Y) (rows : List Row) (i : ℕ) → length rows ≤ i → F (drop i (table_of rows)) ≡ F []
-left_all F rows i l = at_drop_all F (table_of rows) i (omega (arith, length_table rows))
 
 -- the virtual time of a place, read from its row
 pub times_read : (rows : List Row) (d : Row) (o : Option Place) → length rows ≡ 64 →

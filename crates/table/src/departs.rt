@@ -16,6 +16,7 @@ pub fn first_to_depart(rows: &[Row; 64]) -> Option<Place>
 }
 
 // The rates of the active sessions together.
+#[tactic(auto, using(crate::proofs::Chains::total_of))]
 pub fn active_rates(rows: &[Row; 64]) -> u64
     ensures { result ≡ total active_rate (table_of rows.now) }
 {

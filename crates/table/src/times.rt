@@ -46,6 +46,7 @@ pub fn least_time(rows: &[Row; 64]) -> Option<u64>
 }
 
 // The largest virtual time of the open places.
+#[tactic(auto, using(crate::proofs::Chains::greatest_of))]
 pub fn latest_time(rows: &[Row; 64]) -> u64
     ensures { result ≡ greatest (table_of rows.now) }
 {

@@ -1,6 +1,5 @@
-use Rattle.std.proofs.Common.{◌∙◌, rules, tests}
+use Rattle.std.proofs.Common.{sym, ◌∙◌, rules, tests}
 use Rattle.std.proofs.lemmas.Iterator.{YieldsList-from_slice}
-use Rattle.std.proofs.lemmas.Iterator.Adapters.{position_from-zero}
 use Rattle.std.proofs.lemmas.Iterator.Search.{position_from_yields_List}
 use Rattle.model.specs.Departures.{departing}
 use Rattle.session.specs.Seen.{seen}
@@ -15,5 +14,5 @@ pub returns : goal.returns
 returns c =
     let rows = c.args.rows.now in
     let stops = position_from_yields_List (λ (r : Row). departing (seen r)) _ _ _ c.position.ensures.ran (YieldsList-from_slice rows cc) (λ x b q k. search (rules, tests)) in
-    let found = stops ∙ position_from-zero _ rows ∙ first_of departing rows in
+    let found = stops ∙ sym (first_of departing rows) in
     placed c.position.result c.and_then.result (first_inside departing (table_of rows) c.position.result (length_table rows ∙ c.told-rows) found) c.and_then.ensures ∙ found

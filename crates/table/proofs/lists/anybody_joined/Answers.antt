@@ -1,4 +1,4 @@
-use Rattle.std.proofs.Common.{Bool, not, ◌&&◌, ◌∙◌, rules, tests}
+use Rattle.std.proofs.Common.{Bool, not, ◌&&◌, sym, ◌∙◌, rules, tests}
 use Rattle.std.proofs.lemmas.Iterator.{YieldsList-from_slice, YieldsList-from_zip}
 use Rattle.std.proofs.lemmas.Iterator.Search.{any_from_yields_List}
 use Rattle.model.specs.Lists.{in_line}
@@ -15,4 +15,4 @@ returns c =
     any_from_yields_List (λ (p : Row × Bool). not p.1 && in_line c.args.line (seen p.0)) c.any.new.self _ c.any.result c.any.ensures.ran
     (YieldsList-from_zip (YieldsList-from_slice rows cc) (YieldsList-from_slice before cc)) (λ x b q k. search (rules, tests))
     in
-    finds ∙ joins_of c.args.line rows before
+    finds ∙ sym (joins_of c.args.line rows before)
