@@ -2,10 +2,11 @@
 use Rattle.std.proofs.Common.{◌≡◌, ℕ, ◌<◌, ◌≤◌, Bool, true, List, Some, None, Option, sym, ap, ◌∙◌, subst, ⊎_elim}
 use Rattle.std.proofs.lemmas.Bool.{both_ways, cases_lt}
 use Rattle.std.specs.Array.{IsFromFnResult}
+use Rattle.std.specs.Cmp.{IsStrictWeakOrder}
 use denote.Param.Members.{Mut, Called}
-use Rattle.keys.specs.Order.{Order}
 use Rattle.keys.specs.Least.{least_of}
 use Rattle.keys.specs.Places.{key_at, First}
+use Rattle.keys.proofs.Orders.{irreflexive}
 use Rattle.keys.proofs.Places.{row_is, first_place_is_first}
 use Rattle.chooser.specs.declared.entry.Entry.{Entry}
 use Rattle.chooser.specs.Offers.{offered_at, sound, PicksOffered}
@@ -29,7 +30,7 @@ pub row_pick : {K F : Type 0} (before : K → K → Bool) (es : List (Option Ent
 row_pick before es key g f gives row made r is =
     is ∙ ap (least_of before) (row_is before 64 (offered_at es) key row made.long (λ k h. made_at g f row _ 64 gives made k None h))
 
-module _ {K : Type 0} {before : K → K → Bool} (order : Order before) (es : List (Option Entry)) (s : sound es ≡ true) (key : ℕ → K) where
+module _ {K : Type 0} {before : K → K → Bool} (order : IsStrictWeakOrder before) (es : List (Option Entry)) (s : sound es ≡ true) (key : ℕ → K) where
   picks_first_from : (r : Option ℕ) → First before 64 (offered_at es) key r → PicksFirst before key es r
   picks_first_from None h = λ place. ⊎_elim (λ (lt : place < 64). h place lt) (λ (ge : 64 ≤ place). nobody_past es s place ge) (cases_lt place 64)
   picks_first_from (Some place) h = record {
@@ -39,7 +40,7 @@ module _ {K : Type 0} {before : K → K → Bool} (order : Order before) (es : L
         ⊎_elim
         (λ (lt : other < place).
         let above = subst (λ (k : K). before (key place) k ≡ true) same (h.lowest other lt t) in
-        absurd (both_ways _ (order.irreflexive (key place)) above))
+        absurd (both_ways _ (irreflexive order (key place)) above))
         (λ (ge : place ≤ other). ge)
         (cases_lt other place);
   }

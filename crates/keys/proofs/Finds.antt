@@ -1,123 +1,122 @@
--- What the search has found so far, that it finds the least, and that there is only one least.
-use Rattle.std.proofs.Common.{◌≡◌, ℕ, zero, suc, ◌+◌, ◌<◌, ◌≤◌, Bool, true, false, cond, List, [], ◌∷◌, length, get_or, Some, None, Option, sym, refl, ap, ◌∙◌, subst, inl, inr, ⊎_elim, add-one, arith}
+-- That the search finds the least, and that there is only one least.
+use Rattle.std.proofs.Common.{◌≡◌, ℕ, zero, suc, ◌+◌, ◌<◌, ◌≤◌, Bool, true, false, cond, ◌⊎◌, List, [], ◌∷◌, length, get_or, Some, None, Option, sym, refl, ap, ◌∙◌, subst, inl, inr, ⊎_elim, arith}
+use Rattle.std.specs.Cmp.{IsStrictWeakOrder}
+use Rattle.std.specs.List.{enumerate_from, filter_map, fold, position_or_len, reduce}
 use Rattle.std.specs.Option.{option_map}
-use Rattle.std.proofs.lemmas.Bool.{cases_Bool, cases_lt, both_ways, and_from, and_left, and_right, not_from_true, not_from_false, cond-true, cond-false}
-use Rattle.std.proofs.lemmas.List.{get_or_past, get_or_read}
-use Rattle.keys.specs.Order.{Order}
-use Rattle.keys.specs.Better.{better_of, place_of}
+use Rattle.std.proofs.lemmas.Bool.{cases_Bool, cases_lt, and_from, and_left, and_right, not_from_true, not_from_false}
+use Rattle.std.proofs.lemmas.Bool.Decides.{nat_tests}
+use Rattle.std.proofs.lemmas.List.{get_or_past}
+use Rattle.std.proofs.lemmas.List.Sums.{position_or_len_is}
 use Rattle.keys.proofs.Options.{some_none, same_some}
-use Rattle.keys.specs.Least.{unbeaten, is_least, first, least_of, Least}
+use Rattle.keys.proofs.Orders.{irreflexive, overtakes}
+use Rattle.keys.specs.Least.{unbeaten, is_least, least_of, LeastAt, Least}
 
--- of the candidates below i the key k at a is the least
-pub record Best {K : Type 0} (before : K → K → Bool) (row : List (Option K)) (i a : ℕ) (k : K) : Type 0 where
-  pub inside : a < i
-  pub candidate : get_or row a None ≡ Some k
-  pub none_before : (j : ℕ) (other : K) → j < i → get_or row j None ≡ Some other → before other k ≡ false
-  pub lowest : (j : ℕ) (other : K) → j < a → get_or row j None ≡ Some other → before k other ≡ true
+-- ---- the search: the candidates in turn, of which the first of the least stays
+abbrev pub numbered : {K : Type 0} → ℕ × Option K → Option (ℕ × K)
+numbered x = option_map (λ key. (x.0, key)) x.1
 
-abbrev pub Sofar : {K : Type 0} → (K → K → Bool) → List (Option K) → ℕ → Option (ℕ × K) → Type 0
-Sofar before row i None = (j : ℕ) → j < i → get_or row j None ≡ None
-Sofar before row i (Some t) = Best before row i t.0 t.1
+abbrev pub candidates : {K : Type 0} → ℕ → List (Option K) → List (ℕ × K)
+candidates n row = filter_map numbered (enumerate_from n row)
 
-at_last : (P : ℕ → Type 0) (i j : ℕ) → j < i + 1 → (j < i → P j) → P i → P j
-at_last P i j h below here = ⊎_elim below (λ (ge : i ≤ j). let e : i ≡ j = omega arith in subst P e here) (cases_lt j i)
+abbrev pub sooner : {K : Type 0} → (K → K → Bool) → ℕ × K → ℕ × K → ℕ × K
+sooner before x y = cond (before y.1 x.1) y x
 
-module _ {K : Type 0} {before : K → K → Bool} (order : Order before) where
-  -- where the new key comes before the best so far, which no other precedes, no other precedes the new one
-  still_none : (key k other : K) → before key k ≡ true → before other k ≡ false → before other key ≡ false
-  still_none key k other lt nay =
-      ⊎_elim (λ under. absurd (both_ways _ nay (order.transitive other key k under lt))) (λ e. e) (cases_Bool (before other key))
+-- a fact of each entry, where one entry more stands in front
+at_cons : {X : Type 0} (x : X) (xs : List X) (d : X) (P : ℕ → X → Type 0) → P 0 x → ((j : ℕ) → P (suc j) (get_or xs j d)) → (j : ℕ) → P j (get_or (x ∷ xs) j d)
+at_cons x xs d P here behind zero = here
+at_cons x xs d P here behind (suc j) = behind j
 
-  -- and it comes before them all
-  overtakes : (key k other : K) → before key k ≡ true → before other k ≡ false → before key other ≡ true
-  overtakes key k other lt nay =
-      ⊎_elim
-      (λ aye. aye)
-      (λ not_before.
-      let same : key ≡ other = order.total key other not_before (still_none key k other lt nay) in
-      absurd (both_ways _ (subst (λ (x : K). before x k ≡ false) (sym same) nay) lt))
-      (cases_Bool (before key other))
+module _ {K : Type 0} {before : K → K → Bool} (order : IsStrictWeakOrder before) where
+  -- no candidate of the row comes before the key
+  abbrev Ahead : List (Option K) → K → Type 0
+  Ahead row key = (j : ℕ) (other : K) → get_or row j None ≡ Some other → before other key ≡ false
 
-  module _ (row : List (Option K)) where
-    -- the best so far stays, where the entry at i does not come before it
-    keeps : (i a : ℕ) (k : K) → Best before row i a k
-        → ((other : K) → get_or row i None ≡ Some other → before other k ≡ false)
-        → Best before row (i + 1) a k
-    keeps i a k s next = record {
-      inside = omega (arith, s.inside);
-      candidate = s.candidate;
-      none_before = λ j other h.
-          at_last (λ m. get_or row m None ≡ Some other → before other k ≡ false) i j h (s.none_before j other) (next other);
-      lowest = s.lowest;
-    }
+  least_here : (row : List (Option K)) (key : K) → Ahead row key → LeastAt before (Some key ∷ row) 0 key
+  least_here row key ahead = record {
+    candidate = refl;
+    none_before = at_cons (Some key) row None (λ j o. (other : K) → o ≡ Some other → before other key ≡ false)
+        (λ other is. subst (λ x. before x key ≡ false) (same_some (Some key) key other refl is) (irreflexive order key))
+        ahead;
+    lowest = λ j other lt is. absurd (omega arith);
+  }
 
-    -- the entry at i is the best, where it comes before all candidates below it
-    takes : (i : ℕ) (key : K) → get_or row i None ≡ Some key
-        → ((j : ℕ) (other : K) → j < i → get_or row j None ≡ Some other → (before other key ≡ false) × (before key other ≡ true))
-        → Best before row (i + 1) i key
-    takes i key here ahead = record {
-      inside = omega arith;
-      candidate = here;
-      none_before = λ j other h.
-          at_last (λ m. get_or row m None ≡ Some other → before other key ≡ false) i j h
-          (λ lt is. (ahead j other lt is).0)
-          (λ is. subst (λ (x : K). before x key ≡ false) (same_some _ key other here is) (order.irreflexive key));
-      lowest = λ j other h is. (ahead j other h is).1;
-    }
+  least_behind : (x : Option K) (row : List (Option K)) (i : ℕ) (key : K) → ((other : K) → x ≡ Some other → before key other ≡ true)
+      → LeastAt before row i key → LeastAt before (x ∷ row) (suc i) key
+  least_behind x row i key lt least = record {
+    candidate = least.candidate;
+    none_before = at_cons x row None (λ j o. (other : K) → o ≡ Some other → before other key ≡ false)
+        (λ other is. order.one_way key other (lt other is))
+        least.none_before;
+    lowest = at_cons x row None (λ j o. (other : K) → j < suc i → o ≡ Some other → before key other ≡ true)
+        (λ other inside is. lt other is)
+        (λ j other inside. least.lowest j other (omega arith));
+  }
 
-    sofar_more : (i : ℕ) (best : Option (ℕ × K)) (x : Option K) → get_or row i None ≡ x
-        → Sofar before row i best → Sofar before row (i + 1) (better_of before best i x)
-    sofar_more i None None e s = λ j h. at_last (λ m. get_or row m None ≡ None) i j h (s j) e
-    sofar_more i (Some t) None e s = keeps i t.0 t.1 s (λ other is. absurd (some_none _ other is e))
-    sofar_more i None (Some key) e s = takes i key e (λ j other lt is. absurd (some_none _ other is (s j lt)))
-    sofar_more i (Some t) (Some key) e s =
-        let After : Bool → Type 0 = λ b. Sofar before row (i + 1) (cond b (Some (i, key)) (Some t)) in
-        elim (cases_Bool (before key t.1)) [
-          | inl lt ↦ subst After (sym lt) (takes i key e (λ j other h is.
-              let n = s.none_before j other h is in (still_none key t.1 other lt n, overtakes key t.1 other lt n)))
-          | inr nay ↦ subst After (sym nay) (keeps i t.0 t.1 s (λ other is.
-              subst (λ (x : K). before x t.1 ≡ false) (same_some _ key other e is) nay))
-        ]
+  -- of a candidate and those of a row that begins at n behind it, r is the first
+  abbrev From : ℕ → List (Option K) → ℕ × K → Type 0
+  From n row r = (i : ℕ) × (r.0 ≡ n + i) × LeastAt before row i r.1
 
-    pub sofar_step : (i : ℕ) (best r : Option (ℕ × K)) (x : Option K) → i < length row → x ≡ get_or row i x
-        → r ≡ better_of before best i x → Sofar before row i best → Sofar before row (i + 1) r
-    sofar_step i best r x within read is s =
-        subst (Sofar before row (i + 1)) (sym is) (sofar_more i best x (sym (get_or_read row i x within read None)) s)
+  abbrev First : ℕ → List (Option K) → ℕ × K → ℕ × K → Type 0
+  First n row top r = ((r ≡ top) × Ahead row top.1) ⊎ (From n row r × (before r.1 top.1 ≡ true))
 
-    -- once the whole row is searched, the best so far is the least
-    pub sofar_all : (i : ℕ) (best : Option (ℕ × K)) → length row ≤ i → Sofar before row i best → Least before row (place_of best)
-    sofar_all i None past s = λ j. ⊎_elim (λ (lt : j < i). s j lt) (λ (ge : i ≤ j). get_or_past row j None (omega arith)) (cases_lt j i)
-    sofar_all i (Some t) past s = (
-      t.1,
-      record {
-        candidate = s.candidate;
-        none_before = λ j other is.
-            ⊎_elim
-            (λ (lt : j < i). s.none_before j other lt is)
-            (λ (ge : i ≤ j). absurd (some_none _ other is (get_or_past row j None (omega arith))))
-            (cases_lt j i);
-        lowest = s.lowest;
-      },
-    )
+  from_behind : (n : ℕ) (x : Option K) (row : List (Option K)) (r : ℕ × K) → ((other : K) → x ≡ Some other → before r.1 other ≡ true)
+      → From (n + 1) row r → From n (x ∷ row) r
+  from_behind n x row r lt (i, at, least) = (suc i, omega arith, least_behind x row i r.1 lt least)
 
-    some_best : (i : ℕ) → (best : Option (ℕ × K)) × Sofar before row i best
-    some_best zero = (None, λ j h. absurd (omega arith))
-    some_best (suc i) =
-        let r = some_best i in
-        let next = better_of before r.0 i (get_or row i None) in
-        (next, subst (λ (n : ℕ). Sofar before row n next) (add-one i) (sofar_more i r.0 (get_or row i None) refl r.1))
+  -- an entry that does not come before the best so far is passed
+  first_kept : (n : ℕ) (x : Option K) (row : List (Option K)) (top r : ℕ × K) → ((other : K) → x ≡ Some other → before other top.1 ≡ false)
+      → First (n + 1) row top r → First n (x ∷ row) top r
+  first_kept n x row top r nay (inl (same, ahead)) =
+      inl (same, at_cons x row None (λ j o. (other : K) → o ≡ Some other → before other top.1 ≡ false) nay ahead)
+  first_kept n x row top r nay (inr (found, lt)) =
+      inr (from_behind n x row r (λ other is. overtakes order r.1 top.1 other lt (nay other is)) found, lt)
 
--- what the first index at which a test holds is
-first_is : {X : Type 0} (test : X → Bool) (d : X) (xs : List X) (i : ℕ) → i < length xs → test (get_or xs i d) ≡ true
-    → ((j : ℕ) → j < i → test (get_or xs j d) ≡ false) → first test xs ≡ Some i
-first_is test d [] i h t f = absurd (omega arith)
-first_is test d (x ∷ xs) zero h t f = cond-true (test x) (Some 0) _ t
-first_is test d (x ∷ xs) (suc i) h t f =
-    cond-false (test x) (Some 0) _ (f 0 (omega arith)) ∙ ap (option_map suc) (first_is test d xs i (omega arith) t (λ j lt. f (suc j) (omega arith)))
+  -- and one that does is the best so far
+  first_taken : (n : ℕ) (key : K) (row : List (Option K)) (top r : ℕ × K) → before key top.1 ≡ true
+      → First (n + 1) row (n, key) r → First n (Some key ∷ row) top r
+  first_taken n key row top r lt (inl (same, ahead)) =
+      inr (subst (λ x. From n (Some key ∷ row) x × (before x.1 top.1 ≡ true)) (sym same) ((0, omega arith, least_here row key ahead), lt))
+  first_taken n key row top r lt (inr (found, sooner)) =
+      let here : (other : K) → Some key ≡ Some other → before r.1 other ≡ true =
+      λ other is. subst (λ x. before r.1 x ≡ true) (same_some (Some key) key other refl is) sooner in
+      inr (from_behind n (Some key) row r here found, overtakes order r.1 key top.1 sooner (order.one_way key top.1 lt))
 
-first_none : {X : Type 0} (test : X → Bool) (d : X) (xs : List X) → ((j : ℕ) → test (get_or xs j d) ≡ false) → first test xs ≡ None
-first_none test d [] f = refl
-first_none test d (x ∷ xs) f = cond-false (test x) (Some 0) _ (f 0) ∙ ap (option_map suc) (first_none test d xs (λ j. f (suc j)))
+  first_from : (n : ℕ) (row : List (Option K)) (top : ℕ × K) → First n row top (fold (sooner before) top (candidates n row))
+  first_from n [] top = inl (refl, λ j other is. absurd (some_none None other is refl))
+  first_from n (None ∷ row) top = first_kept n None row top _ (λ other is. absurd (some_none None other is refl)) (first_from (n + 1) row top)
+  first_from n (Some key ∷ row) top =
+      let After : Bool → Type 0 = λ b. First n (Some key ∷ row) top (fold (sooner before) (cond b (n, key) top) (candidates (n + 1) row)) in
+      elim (cases_Bool (before key top.1)) [
+        | inl lt ↦ subst After (sym lt) (first_taken n key row top _ lt (first_from (n + 1) row (n, key)))
+        | inr nay ↦ subst After (sym nay) (first_kept n (Some key) row top _
+            (λ other is. subst (λ x. before x top.1 ≡ false) (same_some (Some key) key other refl is) nay)
+            (first_from (n + 1) row top))
+      ]
+
+  abbrev LeastFrom : ℕ → List (Option K) → Option (ℕ × K) → Type 0
+  LeastFrom n row None = (j : ℕ) → get_or row j None ≡ None
+  LeastFrom n row (Some r) = From n row r
+
+  none_behind : (n : ℕ) (row : List (Option K)) (r : Option (ℕ × K)) → LeastFrom (n + 1) row r → LeastFrom n (None ∷ row) r
+  none_behind n row None h = at_cons None row None (λ j o. o ≡ None) refl h
+  none_behind n row (Some r) h = from_behind n None row r (λ other is. absurd (some_none None other is refl)) h
+
+  some_first : (n : ℕ) (key : K) (row : List (Option K)) (r : ℕ × K) → First (n + 1) row (n, key) r → From n (Some key ∷ row) r
+  some_first n key row r (inl (same, ahead)) = subst (From n (Some key ∷ row)) (sym same) (0, omega arith, least_here row key ahead)
+  some_first n key row r (inr (found, lt)) =
+      from_behind n (Some key) row r (λ other is. subst (λ x. before r.1 x ≡ true) (same_some (Some key) key other refl is) lt) found
+
+  least_from : (n : ℕ) (row : List (Option K)) → LeastFrom n row (reduce (sooner before) (candidates n row))
+  least_from n [] = λ j. refl
+  least_from n (None ∷ row) = none_behind n row _ (least_from (n + 1) row)
+  least_from n (Some key ∷ row) = some_first n key row _ (first_from (n + 1) row (n, key))
+
+  placed : (row : List (Option K)) (r : Option (ℕ × K)) → LeastFrom 0 row r → Least before row (option_map (λ x. x.0) r)
+  placed row None h = h
+  placed row (Some r) (i, at, least) = (r.1, let same : i ≡ r.0 = omega arith in subst (λ k. LeastAt before row k r.1) same least)
+
+  pub search_finds : (row : List (Option K)) → Least before row (option_map (λ x. x.0) (reduce (sooner before) (candidates 0 row)))
+  search_finds row = placed row _ (least_from 0 row)
 
 module _ {K : Type 0} (before : K → K → Bool) where
   unbeaten_from : (row : List (Option K)) (key : K)
@@ -146,19 +145,26 @@ module _ {K : Type 0} (before : K → K → Bool) where
 
   -- the words determine the answer, in whatever order: what they hold of is what the definition says
   pub least_is : (row : List (Option K)) (r : Option ℕ) → Least before row r → r ≡ least_of before row
-  least_is row None h = sym (first_none (is_least before row) None row (λ j. ap (is_least before row) (h j)))
+  least_is row None h =
+      let test = is_least before row in
+      let past : position_or_len test row ≡ length row =
+      position_or_len_is test row (length row) None (omega arith) (λ j lt. ap test (h j)) (λ lt. absurd (omega arith)) in
+      grind (arith, nat_tests)
   least_is row (Some i) (key, l) =
-      sym (first_is (is_least before row) None row i (some_inside row i key l.candidate)
-      (ap (is_least before row) l.candidate ∙ unbeaten_from row key l.none_before)
-      (λ j lt. not_least row _ (λ other is. beaten_from row other i key l.candidate (l.lowest j other lt is))))
+      let test = is_least before row in
+      let inside = some_inside row i key l.candidate in
+      let here : position_or_len test row ≡ i =
+      position_or_len_is test row i None (omega arith)
+      (λ j lt. not_least row _ (λ other is. beaten_from row other i key l.candidate (l.lowest j other lt is)))
+      (λ lt. ap test l.candidate ∙ unbeaten_from row key l.none_before) in
+      grind (arith, nat_tests)
 
   pub least_unique : (row : List (Option K)) (r s : Option ℕ) → Least before row r → Least before row s → r ≡ s
   least_unique row r s p q = least_is row r p ∙ sym (least_is row s q)
 
--- in a total order there is always such an answer, and so the definition has the property that its name says
-pub least_of_is_least : {K : Type 0} {before : K → K → Bool} → Order before
+-- where keys have an order there is always such an answer, and so the definition has the property that its name says
+pub least_of_is_least : {K : Type 0} {before : K → K → Bool} → IsStrictWeakOrder before
     → (row : List (Option K)) → Least before row (least_of before row)
 least_of_is_least {before = before} order row =
-    let best = some_best order row (length row) in
-    let found = sofar_all order row (length row) best.0 (omega arith) best.1 in
-    subst (Least before row) (least_is before row (place_of best.0) found) found
+    let found = search_finds order row in
+    subst (Least before row) (least_is before row _ found) found

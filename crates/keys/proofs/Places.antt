@@ -3,7 +3,7 @@ use Rattle.std.proofs.Common.{◌≡◌, ℕ, ◌<◌, ◌≤◌, Bool, true, fa
 use Rattle.std.proofs.lemmas.List.FromFn.{get_or-map-range_with_len, length-map-range_with_len, fill_by_all}
 use Rattle.std.proofs.lemmas.List.{get_or_past}
 use Rattle.std.proofs.lemmas.Bool.{cases_Bool, cases_lt, cond-true, cond-false}
-use Rattle.keys.specs.Order.{Order}
+use Rattle.std.specs.Cmp.{IsStrictWeakOrder}
 use Rattle.keys.specs.Least.{Least}
 use Rattle.keys.specs.Places.{key_at, by_place, first_place, First}
 use Rattle.keys.proofs.Options.{some_none, same_some}
@@ -73,5 +73,5 @@ module _ {K : Type 0} (before : K → K → Bool) (n : ℕ) (candidate : ℕ →
   first_is r h = least_is before (by_place n candidate key) r (least_from r h)
 
   -- and hold of what the definition says
-  pub first_place_is_first : Order before → First before n candidate key (first_place before n candidate key)
+  pub first_place_is_first : IsStrictWeakOrder before → First before n candidate key (first_place before n candidate key)
   first_place_is_first order = first_from _ (least_of_is_least order (by_place n candidate key))

@@ -2,4 +2,3 @@ pub mod Order
 pub mod Kinds
 pub mod Least
 pub mod Places
-pub mod Better

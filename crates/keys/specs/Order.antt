@@ -1,7 +1,7 @@
--- What makes a test of two keys an order in which there is always a first: a strict order that is total.
-use Rattle.std.specs.Prelude.{◌≡◌, Bool, true, false}
+-- Which of two keys comes first, by their order.
+use Rattle.std.specs.Prelude.{Bool}
+use Rattle.std.specs.declared.cmp.Ordering.{Ordering}
+use Rattle.std.specs.Ordering.{is_lt}
 
-pub record Order {K : Type 0} (before : K → K → Bool) : Type 0 where
-  pub irreflexive : (x : K) → before x x ≡ false
-  pub transitive : (x y z : K) → before x y ≡ true → before y z ≡ true → before x z ≡ true
-  pub total : (x y : K) → before x y ≡ false → before y x ≡ false → x ≡ y
+abbrev pub lt_by_cmp : {K : Type 0} → (K → K → Ordering) → K → K → Bool
+lt_by_cmp cmp x y = is_lt (cmp x y)

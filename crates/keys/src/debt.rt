@@ -1,23 +1,35 @@
 // A debt as a key.
-ghost use Rattle.keys.specs.Kinds.{debt_before};
+ghost use Rattle.std.specs.Cmp.{partial_order_from_own_ties};
+ghost use Rattle.std.specs.Cmp.Rules.{comparing};
+ghost use Rattle.std.specs.Ordering.{as_partial_cmp, flip_args, int_cmp, on};
 ghost use Rattle.std.proofs.Common.{rules};
 
-use super::key::Key;
+use std::cmp::Ordering;
 
-// In bytes times price, below 0 for a lead. The greatest comes first.
-#[derive(Clone, Copy)]
+// In bytes times price, below 0 for a lead. The greatest comes first, which no derive says.
+#[derive(Clone, Copy, PartialEq, Eq)]
 pub struct Debt(pub i64);
 
-impl Key for Debt {
-    ghost before = { debt_before };
+impl Ord for Debt {
+    ghost cmp = { flip_args (on (λ debt. debt.0) int_cmp) };
 
-    ghost irreflexive = { Prim.search rules };
+    ghost total = { Prim.search (comparing, rules) };
 
-    ghost transitive = { Prim.search rules };
+    ghost matches_partial_cmp = { Prim.search (comparing, rules) };
 
-    ghost total = { Prim.search rules };
+    ghost matches_eq = { Prim.search (comparing, rules) };
 
-    fn is_before(&self, other: &Debt) -> bool {
-        self.0 > other.0
+    fn cmp(&self, other: &Debt) -> Ordering {
+        other.0.cmp(&self.0)
+    }
+}
+
+impl PartialOrd for Debt {
+    ghost partial_cmp = { as_partial_cmp (flip_args (on (λ debt. debt.0) int_cmp)) };
+
+    ghost laws = { partial_order_from_own_ties (Prim.search (comparing, rules)) (Prim.search (comparing, rules)) };
+
+    fn partial_cmp(&self, other: &Debt) -> Option<Ordering> {
+        Some(self.cmp(other))
     }
 }

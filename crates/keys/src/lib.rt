@@ -3,12 +3,10 @@
 
 mod count;
 mod debt;
-mod key;
 mod search;
 mod time;
 
 pub use count::Count;
 pub use debt::Debt;
-pub use key::Key;
 pub use search::least;
 pub use time::VirtualTime;

@@ -1,43 +1,25 @@
 // The search for the least of a row of keys.
 ghost use Rattle.std.specs.Prelude.{◌≡◌};
-ghost use Rattle.keys.specs.Better.{better_of};
+ghost use Rattle.std.specs.Ordering.{on, ord_min};
 ghost use Rattle.keys.specs.Least.{least_of, Least};
+ghost use Rattle.keys.specs.Order.{lt_by_cmp};
 
-use super::key::Key;
-
-// The best so far, unless the entry at i comes before it. It is built anew, which is quicker than to copy it whole.
-fn better<K: Key + Copy>(best: Option<(usize, K)>, i: usize, entry: Option<K>) -> Option<(usize, K)>
-    ensures { result ≡ better_of K.before best i entry }
+// Of two candidates, each with its index, the one whose key comes first, and the one in front on a tie.
+// It stands here in place of `min_by_key`, so that a wrong pick on a tie breaks a fact of this function.
+fn better<K: Ord + Copy>(best: (usize, K), next: (usize, K)) -> (usize, K)
+    ensures { result ≡ ord_min (on (λ candidate. candidate.1) K.cmp) best next }
 {
-    match best {
-        None => match entry {
-            None => None,
-            Some(key) => Some((i, key)),
-        },
-        Some((at, top)) => match entry {
-            None => Some((at, top)),
-            Some(key) => {
-                if key.is_before(&top) {
-                    Some((i, key))
-                } else {
-                    Some((at, top))
-                }
-            }
-        },
-    }
+    if next.1 < best.1 { next } else { best }
 }
 
 // The index of the least key, the lower one on a tie. An entry without a key is no candidate.
-pub fn least<K: Key + Copy>(keys: &[Option<K>]) -> Option<usize>
-    ensures found { result ≡ least_of K.before keys.now }
-    ensures least { Least K.before keys.now result }
+pub fn least<K: Ord + Copy>(keys: &[Option<K>]) -> Option<usize>
+    ensures found { result ≡ least_of (lt_by_cmp K.cmp) keys.now }
+    ensures least { Least (lt_by_cmp K.cmp) keys.now result }
 {
-    let mut best: Option<(usize, K)> = None;
-    for (i, entry) in keys.iter().enumerate() {
-        best = better(best, i, *entry);
-    }
-    match best {
-        None => None,
-        Some((i, _)) => Some(i),
-    }
+    keys.iter()
+        .enumerate()
+        .filter_map(|(i, key)| Some((i, (*key)?)))
+        .reduce(better)
+        .map(|(i, _)| i)
 }

@@ -47,3 +47,6 @@ around_push xs h n f e l b =
 pub around_take : (xs : List Frame) (h n : ℕ) → 0 < n → around xs h n ≡ get_or xs h no_frame ∷ around xs ((h + 1) % 32) (n - 1)
 around_take xs h zero some = absurd (omega arith)
 around_take xs h (suc n) some = ap (λ (k : ℕ). get_or xs h no_frame ∷ around xs ((h + 1) % 32) k) (omega arith)
+
+-- for the goals of a ring's functions
+pub ruleset rings = (length_held, nth_around, around_push, around_take)

@@ -1,6 +1,6 @@
 // A frame as the cell sees it: what it is called, and how many bytes it takes on the air.
 #[repr(C)]
-#[derive(Clone, Copy, PartialEq, Eq, Debug)]
+#[derive(Clone, Copy, PartialEq, Eq, Debug, Default)]
 pub struct Frame {
     pub tag: u32,
     pub length: u16,

@@ -13,8 +13,7 @@ mod ring;
 mod slots;
 
 pub use frame::Frame;
-use ring::Ring;
-use slots::ROOM;
+use ring::{ROOM, Ring};
 
 // At most 32 frames, first in first out, in memory of its own.
 #[repr(C)]
@@ -46,10 +45,7 @@ impl Queue {
     pub fn get(&self, i: usize) -> Option<Frame>
         ensures { result ≡ slice_get (waiting self.now) i }
     {
-        if i >= self.len() {
-            return None;
-        }
-        Some(self.ring.at(i))
+        (i < self.len()).then(|| self.ring.at(i))
     }
 
     // Puts a frame behind those that wait.
@@ -69,9 +65,11 @@ impl Queue {
         ensures answer { result ≡ front (waiting self.old) }
         ensures after { waiting self.new ≡ rest (waiting self.old) }
     {
+        // A `then` would say nothing of the queue afterwards.
         if self.is_empty() {
-            return None;
+            None
+        } else {
+            Some(self.ring.take())
         }
-        Some(self.ring.take())
     }
 }

@@ -1,23 +1,30 @@
 // What goes into a ring and out of it. Whoever calls sees to it that there is room, or a frame.
-ghost use Rattle.std.specs.Prelude.{◌≡◌, ◌<◌, [], ◌∷◌, ◌++◌, length, Some};
+#![tactic(auto, using(crate::proofs::Rings::rings), unfolding(crate::specs::Ring::held))]
+
+ghost use Rattle.std.specs.Prelude.{◌≡◌, ◌+◌, ◌%◌, ◌<◌, ◌≤◌, [], ◌∷◌, ◌++◌, length, Some};
 ghost use Rattle.std.specs.List.{slice_get};
 ghost use Rattle.queue.specs.Ring.{held};
 
 use super::frame::Frame;
-use super::ring::Ring;
-
-pub(crate) const ROOM: usize = 32;
+use super::ring::{ROOM, Ring};
 
 impl Ring {
     pub(crate) fn new() -> Ring
         ensures { held result ≡ [] }
     {
-        let blank = Frame { tag: 0, length: 0 };
         Ring {
-            frames: [blank; ROOM],
+            frames: [Frame::default(); ROOM],
             head: 0,
             count: 0,
         }
+    }
+
+    // Where the i-th frame stands, counted from the head on.
+    fn slot(&self, i: usize) -> usize
+        requires { i ≤ 32 }
+        ensures { result ≡ (self.now.head + i) % 32 }
+    {
+        (self.head + i) % ROOM
     }
 
     pub(crate) fn count(&self) -> usize
@@ -30,14 +37,15 @@ impl Ring {
         requires { i < length (held self.now) }
         ensures { slice_get (held self.now) i ≡ Some result }
     {
-        self.frames[(self.head + i) % ROOM]
+        self.frames[self.slot(i)]
     }
 
     pub(crate) fn put(&mut self, frame: Frame)
         requires { length (held self.old) < 32 }
         ensures { held self.new ≡ held self.old ++ frame ∷ [] }
     {
-        self.frames[(self.head + self.count) % ROOM] = frame;
+        let slot = self.slot(self.count);
+        self.frames[slot] = frame;
         self.count += 1;
     }
 
@@ -46,7 +54,7 @@ impl Ring {
         ensures { held self.old ≡ result ∷ held self.new }
     {
         let frame = self.frames[self.head];
-        self.head = (self.head + 1) % ROOM;
+        self.head = self.slot(1);
         self.count -= 1;
         frame
     }

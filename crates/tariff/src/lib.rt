@@ -38,7 +38,10 @@ impl Rate {
         if !listed(units) {
             return Err(Refusal::RateNotInTariff);
         }
-        Ok(Rate::made(units, LINK / units))
+        Ok(Rate {
+            units,
+            price: LINK / units,
+        })
     }
 }
 
@@ -57,14 +60,10 @@ mod tests {
     }
 
     #[test]
-    fn refused(rt: HostRuntime) -> Result<(), Fail> {
+    fn refused(rt: HostRuntime) {
         for units in [0, 17, 720719, 720721, 1441440, u32::MAX] {
-            match Rate::new(units) {
-                Ok(_) => return Err(Fail::new("in the tariff")),
-                Err(why) => assert_eq!(rt; why.number(), 8),
-            }
+            assert_eq!(rt; Rate::new(units).err().map(Refusal::number), Some(8));
         }
-        Ok(())
     }
 
     // Every number up to twice the link, against plain division.

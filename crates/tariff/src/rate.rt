@@ -4,20 +4,12 @@ ghost use Rattle.std.specs.Prelude.{◌≡◌, ◌*◌};
 // Whoever holds one knows that rate times price is the link, and need not check it.
 #[derive(Clone, Copy)]
 pub struct Rate {
-    units: u32,
-    price: u32,
+    pub(crate) units: u32,
+    pub(crate) price: u32,
     ghost exact: { units * price ≡ 720720 },
 }
 
 impl Rate {
-    pub(crate) fn made(units: u32, price: u32) -> Rate
-        requires { units * price ≡ 720720 }
-        ensures units { result.units ≡ units }
-        ensures price { result.price ≡ price }
-    {
-        Rate { units, price }
-    }
-
     // How many units of the link are booked.
     pub fn units(&self) -> u32
         ensures { result ≡ self.now.units }

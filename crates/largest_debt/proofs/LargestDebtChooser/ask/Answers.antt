@@ -1,5 +1,7 @@
-use Rattle.std.proofs.Common.{rules, sym, subst}
+use Rattle.std.proofs.Common.{rules, sym, ap, ◌∙◌, subst}
+use Rattle.keys.proofs.Orders.{debt_first}
 use Rattle.keys.specs.Kinds.{debt_before}
+use Rattle.keys.specs.Least.{least_of}
 use Rattle.chooser.proofs.Picks.{row_pick}
 use Rattle.largest_debt.specs.Largest.{debt_key, PicksLargest}
 use Rattle.largest_debt.specs.Laws.{picks_largest}
@@ -9,5 +11,6 @@ pub returns : goal.returns
 returns c =
     let o = c.args.offer.now in
     let made = c.from_fn-debts.ensures.items in
-    let value = row_pick debt_before o.entries (debt_key o.entries) _ _ (λ k l x q call. search rules) _ made _ c.least.ensures.found in
+    let found = c.least.ensures.found ∙ ap (λ before. least_of before c.from_fn-debts.result) debt_first in
+    let value = row_pick debt_before o.entries (debt_key o.entries) _ _ (λ k l x q call. search rules) _ made _ found in
     record { value = value; largest = subst (PicksLargest o.entries) (sym value) (picks_largest o.entries o.ok) }

@@ -1,5 +1,6 @@
 use Rattle.std.proofs.Common.{ℕ, ◌∙◌, sym, ap, subst, rules}
 use Rattle.std.specs.Option.{option_map}
+use Rattle.keys.proofs.Orders.{time_first}
 use Rattle.keys.specs.Least.{Least}
 use Rattle.keys.specs.Kinds.{time_before}
 use Rattle.model.specs.Table.{at, is_none}
@@ -18,7 +19,8 @@ returns c =
     let r = c.least.result in
     let size = length_table rows ∙ c.told-rows in
     let keys = made_is _ _ _ time_key t 64 c.from_fn-keys.ensures.items size (λ k l y q call. search rules) in
-    let found = search_is t r (subst (λ ks. Least time_before ks r) keys c.least.ensures.least) in
+    let least = subst (λ before. Least before c.from_fn-keys.result r) time_first c.least.ensures.least in
+    let found = search_is t r (subst (λ ks. Least time_before ks r) keys least) in
     let is = placed r c.and_then.result (chosen_inside t r size found) c.and_then.ensures ∙ found in
     record {
       is = is;

@@ -1,5 +1,7 @@
-use Rattle.std.proofs.Common.{rules, sym, subst}
+use Rattle.std.proofs.Common.{rules, sym, ap, ◌∙◌, subst}
+use Rattle.keys.proofs.Orders.{count_first}
 use Rattle.keys.specs.Kinds.{count_before}
+use Rattle.keys.specs.Least.{least_of}
 use Rattle.chooser.proofs.Picks.{row_pick}
 use Rattle.least_served.specs.Served.{count_key, PicksLeastServed}
 use Rattle.least_served.specs.Laws.{picks_least_served}
@@ -11,5 +13,6 @@ returns c =
     let line = c.args.line in
     let o = c.args.offer.now in
     let made = c.from_fn-counts.ensures.items in
-    let value = row_pick count_before o.entries (count_key s line) _ _ (λ k l x q call. search rules) _ made _ c.least.ensures.found in
+    let found = c.least.ensures.found ∙ ap (λ before. least_of before c.from_fn-counts.result) count_first in
+    let value = row_pick count_before o.entries (count_key s line) _ _ (λ k l x q call. search rules) _ made _ found in
     record { value = value; least = subst (PicksLeastServed s line o.entries) (sym value) (picks_least_served s line o.entries o.ok) }
