@@ -14,7 +14,7 @@ pub(crate) fn leave(rows: &mut [Row; 64])
     requires { TheMidway lag_bound (table_of rows.old) }
     ensures { table_of rows.new ≡ departures (table_of rows.old) }
 {
-    if let Some(_) = first_to_depart(rows) {
+    if first_to_depart(rows).is_some() {
         let table = Midway { rows: *rows };
         *rows = table.departed();
     }
