@@ -21,7 +21,7 @@ impl Row {
     pub fn able(&self) -> bool
         ensures { result ≡ able (seen self.now) }
     {
-        self.waits() & self.good
+        self.waits() && self.good
     }
 
     // Whether it is owed service.
@@ -79,10 +79,6 @@ impl Row {
     pub fn key(&self) -> Option<VirtualTime>
         ensures { result ≡ time_key (seen self.now) }
     {
-        if self.active {
-            Some(VirtualTime(self.virtual_time))
-        } else {
-            None
-        }
+        self.active.then_some(VirtualTime(self.virtual_time))
     }
 }

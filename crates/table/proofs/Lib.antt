@@ -1,6 +1,7 @@
 pub mod Built
+pub mod Chains
 pub mod Dues
-pub mod Joining
+pub mod Made
+pub mod Numbers
 pub mod Offering
 pub mod Tables
-pub mod Walks

@@ -1,25 +1,13 @@
 -- Lists made from a table place by place.
-use Rattle.std.proofs.Common.{◌≡◌, ℕ, zero, suc, ◌<◌, Bool, true, ◌&&◌, List, [], ◌∷◌, map, length, get_or, replicate, refl, ap, ◌∙◌, arith}
-use Rattle.std.proofs.lemmas.List.{length-map, get_or-map}
+use Rattle.std.proofs.Common.{◌≡◌, ℕ, zero, suc, ◌<◌, Bool, true, ◌&&◌, List, [], ◌∷◌, length, get_or, replicate, refl, ap, ◌∙◌, arith}
 use Rattle.chooser.specs.declared.entry.Entry.{Entry}
 use Rattle.chooser.specs.declared.entry.Line.{Line}
 use Rattle.model.specs.Lists.{in_line, entry, offer, stayed}
 use Rattle.model.specs.Session.{Session}
 use Rattle.model.specs.Table.{Table}
-use Rattle.session.specs.Seen.{seen}
 use Rattle.session.specs.declared.row.Row.{Row}
 use Rattle.table.specs.Places.{table_of}
-use Rattle.table.proofs.Tables.{length_table, getD_table}
-
--- a list made of each session by a function
-pub length_made : {Y : Type 0} (f : Session → Y) (rows : List Row) → length (map f (table_of rows)) ≡ length rows
-length_made f rows = length-map (table_of rows) f ∙ length_table rows
-
-pub getD_made : {Y : Type 0} (f : Session → Y) (rows : List Row) (i : ℕ) (d : Row) (e : Y) → i < length rows →
-    get_or (map f (table_of rows)) i e ≡ f (seen (get_or rows i d))
-getD_made f rows i d e l =
-    let m : i < length (table_of rows) = omega (arith, length_table rows) in
-    get_or-map f (table_of rows) i (seen d) e m ∙ ap f (getD_table rows i d (seen d) l)
+use Rattle.table.proofs.Tables.{length_table}
 
 pub length_stayed : (l : Line) (bs : List Bool) (t : Table) → length bs ≡ length t → length (stayed l bs t) ≡ length bs
 unfolding stayed

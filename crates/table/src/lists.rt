@@ -1,34 +1,35 @@
 // The two lists from which a chooser picks.
-ghost use Rattle.std.specs.Prelude.{◌≡◌};
-ghost use Rattle.model.specs.Lists.{in_list, stayed};
+ghost use Rattle.std.specs.Prelude.{◌≡◌, ◌<◌};
+ghost use Rattle.model.specs.Lists.{in_line, in_list, stayed};
+ghost use Rattle.model.specs.Table.{at};
 ghost use Rattle.table.specs.Joiners.{any_joins};
 ghost use Rattle.table.specs.Places.{table_of};
 
 use chooser::{Entry, Line};
 use session::Row;
+use std::array;
 use tariff::LINK;
 
 // Who stands in a list, place by place.
+#[tactic(auto, using(crate::proofs::Tables::at_table))]
 pub fn members(rows: &[Row; 64], line: Line) -> [bool; 64]
     ensures { result ≡ in_list line (table_of rows.now) }
 {
-    let mut is = [false; 64];
-    for place in 0..64usize {
-        is[place] = rows[place].stands_in(line);
-    }
-    is
+    array::from_fn(
+        |i|
+            requires { i < 64 }
+            ensures { result ≡ in_line line (at (table_of rows.entry.now) i) }
+        { rows[i].stands_in(line) },
+    )
 }
 
 // Whether a place is in a list now that was not.
 pub fn anybody_joined(rows: &[Row; 64], line: Line, before: &[bool; 64]) -> bool
     ensures { result ≡ any_joins line before.now (table_of rows.now) }
 {
-    for k in 0..64usize {
-        if !before[k] & rows[k].stands_in(line) {
-            return true;
-        }
-    }
-    false
+    rows.iter()
+        .zip(before)
+        .any(|(row, stood)| !stood && row.stands_in(line))
 }
 
 // What an offer says of those who stood in a list before and still do.
