@@ -32,9 +32,7 @@ impl<C> Cell<C> {
     fn next(&self) -> Result<Place, Refusal>
         ensures { chosen_as result ≡ unless (refusal (view self.now) a_turn) (found (chosen_of (view self.now).table)) }
     {
-        let place = due(&self.rows)
-            .and_then(Place::new)
-            .ok_or(Refusal::NoneActive)?;
+        let place = due(&self.rows).ok_or(Refusal::NoneActive)?;
         if self.turns >= MOST_TURNS {
             return Err(Refusal::TurnsUsedUp);
         }
