@@ -18,6 +18,7 @@ use session::Row;
 
 impl Roll<'_> {
     // How the turn of the chosen place goes.
+    #[tactic(auto, unfolding(crate::specs::Picks::picked_from))]
     pub(crate) fn decide<C: Chooser>(&self, chooser: &C, chosen: Place) -> Way
         ensures { way_as result ≡ decided (meant C.Chooser) (only chooser.now (table_of self.now.rows.now)) chosen.number }
     {
@@ -50,7 +51,6 @@ impl Roll<'_> {
     fn pick<C: Chooser>(&self, chooser: &C, line: Line) -> Option<Place>
         ensures { numbers result ≡ picked_from (meant C.Chooser) chooser.now line (table_of self.now.rows.now) }
     {
-        let place = chooser.ask(line, &self.all(line))?;
-        Place::new(place)
+        chooser.ask(line, &self.all(line)).and_then(Place::new)
     }
 }

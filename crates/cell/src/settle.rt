@@ -24,6 +24,7 @@ impl Roll<'_> {
     }
 
     // Tells who joined a list. In most calls nobody does, and then no offer is made.
+    #[tactic(auto, using(crate::proofs::Joining::nobody_joins))]
     fn tell<C: Chooser>(&self, chooser: &mut C, line: Line, before: &[bool; 64])
         ensures { chooser.new ≡
             joins (meant C.Chooser) line before.now

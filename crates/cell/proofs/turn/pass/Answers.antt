@@ -2,11 +2,10 @@ use Rattle.std.proofs.Common.{◌≡◌, ap, ◌∙◌}
 use Rattle.model.proofs.Meant.{lawful}
 use Rattle.model.specs.Calls.{heard}
 use Rattle.model.specs.Cell.{joins, mark_from, mark_after, all_joins}
-use Rattle.model.specs.Departures.{departures}
 use Rattle.model.specs.Lists.{Credit, Extra}
 use Rattle.model.specs.Meaning.{meant}
 use Rattle.model.specs.Table.{Table, least, greatest}
-use Rattle.model.specs.Turn.{Way, answer_of, turned}
+use Rattle.model.specs.Turn.{Way}
 use Rattle.table.specs.Places.{table_of}
 use Rattle.cell.specs.Ways.{way_as, only}
 use Rattle.cell.specs.declared.before.Before.{Before}
@@ -35,27 +34,24 @@ invariant_of-settle-clause-fair g c =
     (way_as c.decide-way.result) c.decide-way.ensures c.carry_out-turn.result c.carry_out-turn.ensures.answer _ _
     c.carry_out-turn.ensures.after c.leave.ensures
 
-pub returns : goal.returns
-unfolding mark_after all_joins
-returns g c =
+pub returns-clause-marked : goal.returns-clause-marked
+unfolding mark_after
+returns-clause-marked g c =
+    let u = table_of c.leave.new.rows in
+    c.settle.ensures.mark ∙ ap (λ (b : Before). mark_from (least u) b.idle (greatest u) c.args.mark.now) c.look-before.ensures
+
+pub returns-clause-told : goal.returns-clause-told
+unfolding all_joins
+returns-clause-told g c =
     let M = meant g.C.Chooser in
     let t = table_of c.args.rows.now in
     let ch = c.args.chooser.now in
-    let keep = c.args.keep in
-    let chosen = c.args.chosen.number in
     let n = c.carry_out-turn.result.length in
     let u = table_of c.leave.new.rows in
-    let is = c.decide-way.ensures in
-    let looked = c.look-before.ensures in
     let way = way_as c.decide-way.result in
     let heard_then : c.tell_served.new.chooser ≡ heard M (only ch t) way n =
-    c.tell_served.ensures ∙ ap (λ (v : Table). heard M (only ch v) way n) c.carry_out-turn.ensures.after ∙ heard_after M ch keep n t chosen way in
-    record {
-      answer = c.carry_out-turn.ensures.answer ∙ ap (answer_of t chosen) is;
-      after = c.leave.ensures ∙ ap departures (c.carry_out-turn.ensures.after ∙ ap (turned keep t chosen n) is);
-      marked = c.settle.ensures.mark ∙ ap (λ (b : Before). mark_from (least u) b.idle (greatest u) c.args.mark.now) looked;
-      told =
-          c.settle.ensures.told
-          ∙ ap (λ (b : Before). joins M Extra b.extra u (joins M Credit b.credit u c.tell_served.new.chooser)) looked
-          ∙ ap (all_joins M t u) (heard_then ∙ ap (λ (w : Way). heard M (only ch t) w n) is);
-    }
+    c.tell_served.ensures ∙ ap (λ (v : Table). heard M (only ch v) way n) c.carry_out-turn.ensures.after
+    ∙ heard_after M ch c.args.keep n t c.args.chosen.number way in
+    c.settle.ensures.told
+    ∙ ap (λ (b : Before). joins M Extra b.extra u (joins M Credit b.credit u c.tell_served.new.chooser)) c.look-before.ensures
+    ∙ ap (all_joins M t u) (heard_then ∙ ap (λ (w : Way). heard M (only ch t) w n) c.decide-way.ensures)
