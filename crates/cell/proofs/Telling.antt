@@ -33,7 +33,7 @@ if_sound_is x f o = by (sound o.entries) refl
     by false e = absurd (both_ways (sound o.entries) e o.ok)
 
 -- what a chooser of the code is asked and told of an offer with known entries, as what it means
-module _ {C : Type 0} (g : Ghosts C) (c : C) (l : Line) (o : Offer) (es : List Entry) (e : o.entries ≡ es) where
+module _ {C : Type 0} (g : Ghosts C) (c : C) (l : Line) (o : Offer) (es : List (Option Entry)) (e : o.entries ≡ es) where
   pub asked_is : g.pick c l o ≡ (meant g).pick c l es
   asked_is = sym (if_sound_is None (g.pick c l) o) ∙ ap ((meant g).pick c l) e
 
@@ -41,7 +41,7 @@ module _ {C : Type 0} (g : Ghosts C) (c : C) (l : Line) (o : Offer) (es : List E
   joined_is k = sym (if_sound_is c (g.after_joined c l k) o) ∙ ap ((meant g).joined c l k) e
 
 -- who joined is told place by place
-module _ {C : Type 0} (M : Meaning C) (l : Line) (stay : List Entry) where
+module _ {C : Type 0} (M : Meaning C) (l : Line) (stay : List (Option Entry)) where
   abbrev pub tells : C → ℕ × (Row × Bool) → C
   tells c p = cond (not p.1.1 && in_line l (seen p.1.0)) (M.joined c l p.0 stay) c
 
@@ -67,7 +67,7 @@ module _ {C : Type 0} (M : Meaning C) (l : Line) (stay : List Entry) where
     tells_outsider new out = sym (cond-false _ _ _ (ap (λ (b : Bool). not b && in_line l (seen r)) new ∙ out))
 
 -- the loop that does so, one place more and at its end
-module _ {C : Type 0} (M : Meaning C) (l : Line) (stay : List Entry) (rows : List Row) (before : List Bool)
+module _ {C : Type 0} (M : Meaning C) (l : Line) (stay : List (Option Entry)) (rows : List Row) (before : List Bool)
     (s : Enumerate (Zip (Iter Row) (Iter Bool))) (a : iter_rest s.iter.a ≡ rows) (b : iter_rest s.iter.b ≡ before) (z : s.count ≡ 0)
     (xs : List (ℕ × (Bor Row × Bor Bool))) (t : Enumerate (Zip (Iter Row) (Iter Bool))) (y : Yields (enumerate_steps (zips fronts fronts)) s xs t)
     (r : Option (ℕ × (Bor Row × Bor Bool))) (u : Enumerate (Zip (Iter Row) (Iter Bool))) where
