@@ -11,7 +11,7 @@ use Rattle.model.specs.Session.{Session, vacant, waiting, able, lags}
 use Rattle.model.specs.Sound.{Orderly, Books}
 use Rattle.model.specs.Table.{Table, at}
 use Rattle.table.proofs.Offering.{length_stayed, getD_stayed}
-use Rattle.cell.specs.Found.{Offerable}
+use Rattle.cell.specs.Offerable.{Offerable}
 
 -- nobody waits at a place that is not open
 waits_booked : {mark turns : ℕ} (s : Session) → Orderly mark turns s → waiting s ≡ true → s.booked ≡ true

@@ -12,6 +12,7 @@ mod tests;
 pub use holder::Holder;
 
 // An offer without one place. Whoever makes an offer shows that it is sound.
+#[tactic(auto, using(chooser::proofs::Sound::sound_set))]
 pub fn without(offer: &Offer, place: usize) -> Offer
     ensures { result.entries ≡ slice_set offer.now.entries place None }
 {
