@@ -1,5 +1,5 @@
 -- Whom a chooser is asked about: those who stood in the list before, while nothing has changed, are all who stand in it.
-use Rattle.std.proofs.Common.{◌≡◌, Bool, true, false, ◌&&◌, List, [], ◌∷◌, refl, ap, ◌∙◌}
+use Rattle.std.proofs.Common.{◌≡◌, Bool, true, false, ◌&&◌, List, [], ◌∷◌, Option, refl, ap, ◌∙◌}
 use Rattle.model.specs.Lists.{Entry, Line, in_line, in_list, entry, offer, stayed}
 use Rattle.model.specs.Table.{Table}
 

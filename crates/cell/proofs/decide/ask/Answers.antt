@@ -1,4 +1,4 @@
-use Rattle.std.proofs.Common.{Bool, List, None, sym, ap, ◌∙◌}
+use Rattle.std.proofs.Common.{Bool, List, None, Option, sym, ap, ◌∙◌}
 use Rattle.model.specs.Lists.{Entry, stayed}
 use Rattle.model.specs.Meaning.{meaning}
 use Rattle.table.specs.Places.{table_of}

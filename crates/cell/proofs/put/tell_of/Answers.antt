@@ -1,4 +1,4 @@
-use Rattle.std.proofs.Common.{List, sym, ap, ◌∙◌, arith}
+use Rattle.std.proofs.Common.{List, Option, sym, ap, ◌∙◌, arith}
 use Rattle.model.specs.Lists.{Entry}
 use Rattle.session.specs.Seen.{seen}
 use Rattle.cell.proofs.Joining.{one_joins, none_joins}
