@@ -1,4 +1,3 @@
-pub mod Apart
 pub mod Numbers
 pub mod Parsing
 pub mod Trips

@@ -1,7 +1,6 @@
 -- Sixteen bytes that pass the checks, letter by letter.
-use Rattle.std.proofs.Common.{◌≡◌, ℕ, zero, suc, ◌+◌, ◌-◌, ◌<◌, ◌≤◌, false, ◌||◌, ltb, List, [], ◌∷◌, length, get_or, drop, Some, None, Ok, Option, Result, sym, refl, ap, ◌∙◌, inl, inr, arith, length-drop, length-take, get_or-drop, get_or-take}
+use Rattle.std.proofs.Common.{◌≡◌, ℕ, zero, suc, ◌+◌, ◌-◌, ◌<◌, ◌≤◌, false, ◌||◌, ltb, List, [], ◌∷◌, length, get_or, drop, Some, None, Ok, Option, Result, sym, refl, ap, ◌∙◌, arith, length-drop, length-take, get_or-drop, get_or-take}
 use Rattle.std.specs.List.{between}
-use Rattle.std.proofs.lemmas.Bool.{cases_Bool, cond-true, cond-false}
 use Rattle.std.proofs.lemmas.Bool.Decides.{nat_tests}
 use Rattle.answer.specs.declared.fault.Fault.{Fault}
 use Rattle.answer.specs.declared.refusal.Refusal.TheVariants.{UnusedByteNotZero, NoteNotPrintable}
@@ -10,16 +9,11 @@ use Rattle.record.specs.declared.letter.Letter.TheVariants.{O, C, A, G, B, T}
 use Rattle.record.specs.Letters.{letter_of}
 use Rattle.record.specs.Layout.{Contents, from_to, saying, unused, used, decoded, place_in, length_in, value_in, note_in}
 use Rattle.record.specs.Reading.{first_outside, first_not_zero, first_unprintable, unless, parsed, parsed_as}
-use Rattle.record.proofs.Apart.{some≢none}
 use Rattle.record.proofs.Numbers.{length_is, value_is}
 
 passed : (low high i b : ℕ) (bs : List ℕ) → first_outside low high i (b ∷ bs) ≡ None
     → ((ltb b low || ltb high b) ≡ false) × (first_outside low high (i + 1) bs ≡ None)
-passed low high i b bs e =
-    elim (cases_Bool (ltb b low || ltb high b)) [
-      | inl t ↦ some≢none (sym (cond-true _ _ _ t) ∙ e)
-      | inr f ↦ (f, sym (cond-false _ _ _ f) ∙ e)
-    ]
+passed low high i b bs e = grind arith
 
 -- where no byte lies outside a range, each is in it
 pub each_inside : (low high i : ℕ) (bs : List ℕ) → first_outside low high i bs ≡ None → (k : ℕ) → k < length bs

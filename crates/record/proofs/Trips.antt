@@ -1,7 +1,8 @@
 -- Writing and reading undo each other.
-use Rattle.std.proofs.Common.{◌≡◌, ℕ, ◌+◌, ◌^◌, ◌<◌, ◌≤◌, true, false, not, eqb, ltb, List, [], ◌∷◌, ◌++◌, length, get_or, take, drop, is_some, Some, None, Ok, Err, Option, Result, sym, refl, ap, ◌∙◌, subst, inl, inr, arith, length-append, length-drop, length-take}
+use Rattle.std.proofs.Common.{◌≡◌, ℕ, ◌+◌, ◌^◌, ◌<◌, ◌≤◌, true, false, not, ltb, List, [], ◌∷◌, ◌++◌, length, get_or, take, drop, is_some, Some, None, Ok, Err, Option, Result, sym, refl, ap, ◌∙◌, subst, inl, inr, arith, length-append, length-drop, length-take}
 use Rattle.std.specs.List.{between}
-use Rattle.std.proofs.lemmas.Bool.{false≢true, cases_Bool, and_parts, eqb-true, cond-true, cond-false, le-ltb, eq-eqb, and_from, cases_lt}
+use Rattle.std.proofs.lemmas.Bool.Decides.{nat_tests}
+use Rattle.std.proofs.lemmas.Bool.{false≢true, cond-true, cond-false, le-ltb, eq-eqb, and_from, cases_lt}
 use Rattle.std.proofs.lemmas.List.{take_at, drop_at, take_all, length-take-le, get_or-take, get_or-drop, get_or_past, take-append-drop, drop-drop, drop_more}
 use Rattle.answer.specs.declared.fault.Fault.{Fault}
 use Rattle.answer.specs.declared.refusal.Refusal.{Refusal}
@@ -15,7 +16,6 @@ use Rattle.record.specs.Layout.{Contents, saying, contents, decoded, encoded, li
 use Rattle.record.specs.Reading.{first_unprintable, unless, parsed, parsed_as, reading, with_rest}
 use Rattle.record.specs.Writing.{after, is_note, writing, written}
 use Rattle.record.specs.Laws.{ReadsBack}
-use Rattle.record.proofs.Apart.{ok≢err, some≢none}
 use Rattle.record.proofs.Numbers.{little_spread, spread_little}
 
 none_from : (o : Option ℕ) → not (is_some o) ≡ true → o ≡ None
@@ -23,18 +23,11 @@ none_from None e = refl
 none_from (Some i) e = absurd (false≢true e)
 
 note_parts : (note : List ℕ) → is_note note ≡ true → (length note ≡ 8) × (first_unprintable note ≡ None)
-note_parts note e = let p = and_parts _ _ e in (eqb-true _ _ p.0, none_from _ p.1)
+note_parts note e = grind (arith, nat_tests, none_from)
 
 -- where writing is accepted, the note is one and the buffer has room
 accepted : (c : Contents) (out : List ℕ) → writing c out ≡ Ok tt → (is_note c.note ≡ true) × (ltb (length out) 16 ≡ false)
-accepted c out e =
-    elim (cases_Bool (is_note c.note)) [
-      | inl t ↦ elim (cases_Bool (ltb (length out) 16)) [
-        | inl s ↦ ok≢err (sym e ∙ cond-true _ _ _ t ∙ cond-true _ _ _ s)
-        | inr l ↦ (t, l)
-      ]
-      | inr b ↦ ok≢err (sym e ∙ cond-false _ _ _ b)
-    ]
+accepted c out e = grind arith
 
 -- a record is the front of the buffer that it was written into
 pub front_is : (c : Contents) (out : List ℕ) → writing c out ≡ Ok tt → length c.note ≡ 8 → written c out ≡ encoded c ++ drop 16 out
@@ -84,16 +77,12 @@ same_letter k l e = cc
 
 -- a byte that is a letter is how that letter is written
 spelt : (ls : List Letter) (byte : ℕ) (l : Letter) → among ls byte ≡ Some l → byte_of l ≡ byte
-spelt [] byte l e = some≢none (sym e)
-spelt (k ∷ ls) byte l e =
-    elim (cases_Bool (eqb byte (byte_of k))) [
-      | inl t ↦ (let same : k ≡ l = same_letter k l (sym (cond-true _ _ _ t) ∙ e) in sym (eqb-true _ _ t ∙ ap byte_of same))
-      | inr f ↦ spelt ls byte l (sym (cond-false _ _ _ f) ∙ e)
-    ]
+spelt [] byte l e = cc
+spelt (k ∷ ls) byte l e = grind (arith, nat_tests, spelt ls byte l)
 
 unless_ok : (o : Option ℕ) (why : Refusal) (number : ℕ) (r : Result Contents Fault) (c : Contents) → unless o why number r ≡ Ok c → (o ≡ None) × (r ≡ Ok c)
 unless_ok None why number r c e = (refl, e)
-unless_ok (Some i) why number r c e = ok≢err (sym e)
+unless_ok (Some i) why number r c e = cc
 
 same_ok : (c d : Contents) → ◌≡◌ {A = Result Contents Fault} (Ok c) (Ok d) → c ≡ d
 same_ok c d e = cc
@@ -106,7 +95,7 @@ pub record Parsed (bs : List ℕ) (c : Contents) : Type 0 where
   pub says : decoded letter bs ≡ c
 
 parsed_from : (number : ℕ) (bs : List ℕ) (o : Option Letter) (c : Contents) → letter_of (get_or bs 0 0) ≡ o → parsed_as number bs o ≡ Ok c → Parsed bs c
-parsed_from number bs None c h e = ok≢err (sym e)
+parsed_from number bs None c h e = cc
 parsed_from number bs (Some l) c h e =
     let a = unless_ok _ _ _ _ _ e in
     let b = unless_ok _ _ _ _ _ a.1 in
