@@ -1,5 +1,5 @@
 -- Sixteen bytes that pass the checks, letter by letter.
-use Rattle.std.proofs.Common.{◌≡◌, ℕ, zero, suc, ◌+◌, ◌-◌, ◌<◌, ◌≤◌, false, ◌||◌, ltb, List, [], ◌∷◌, length, get_or, drop, Some, None, Ok, Option, Result, sym, refl, ap, ◌∙◌, arith, length-drop, length-take, get_or-drop, get_or-take}
+use Rattle.std.proofs.Common.{◌≡◌, ℕ, zero, suc, ◌+◌, ◌-◌, ◌<◌, ◌≤◌, List, [], ◌∷◌, length, get_or, drop, Some, None, Ok, Option, Result, sym, refl, ap, ◌∙◌, arith, length-drop, length-take, get_or-drop, get_or-take}
 use Rattle.std.specs.List.{between}
 use Rattle.std.proofs.lemmas.Bool.Decides.{nat_tests}
 use Rattle.answer.specs.declared.fault.Fault.{Fault}
@@ -11,16 +11,12 @@ use Rattle.record.specs.Layout.{Contents, from_to, saying, unused, used, decoded
 use Rattle.record.specs.Reading.{first_outside, first_not_zero, first_unprintable, unless, parsed, parsed_as}
 use Rattle.record.proofs.Numbers.{length_is, value_is}
 
-passed : (low high i b : ℕ) (bs : List ℕ) → first_outside low high i (b ∷ bs) ≡ None
-    → ((ltb b low || ltb high b) ≡ false) × (first_outside low high (i + 1) bs ≡ None)
-passed low high i b bs e = grind arith
-
 -- where no byte lies outside a range, each is in it
 pub each_inside : (low high i : ℕ) (bs : List ℕ) → first_outside low high i bs ≡ None → (k : ℕ) → k < length bs
     → (low ≤ get_or bs k 0) × (get_or bs k 0 ≤ high)
 each_inside low high i [] e k h = absurd (omega arith)
-each_inside low high i (b ∷ bs) e zero h = let f = (passed low high i b bs e).0 in (grind (arith, nat_tests), grind (arith, nat_tests))
-each_inside low high i (b ∷ bs) e (suc k) h = each_inside low high (i + 1) bs (passed low high i b bs e).1 k (omega arith)
+each_inside low high i (b ∷ bs) e zero h = grind (arith, nat_tests)
+each_inside low high i (b ∷ bs) e (suc k) h = grind (arith, nat_tests, each_inside low high (i + 1) bs)
 
 module _ (bs : List ℕ) (sixteen : length bs ≡ 16) where
   zero_at : (from to : ℕ) → to ≤ 16 → first_not_zero (from_to from to) bs ≡ None → (k : ℕ) → from ≤ k → k < to → get_or bs k 0 ≡ 0

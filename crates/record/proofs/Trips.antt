@@ -1,8 +1,8 @@
 -- Writing and reading undo each other.
-use Rattle.std.proofs.Common.{◌≡◌, ℕ, ◌+◌, ◌^◌, ◌<◌, ◌≤◌, true, false, not, ltb, List, [], ◌∷◌, ◌++◌, length, get_or, take, drop, is_some, Some, None, Ok, Err, Option, Result, sym, refl, ap, ◌∙◌, subst, inl, inr, arith, length-append, length-drop, length-take}
+use Rattle.std.proofs.Common.{◌≡◌, ℕ, ◌+◌, ◌^◌, ◌<◌, ◌≤◌, true, false, ltb, List, [], ◌∷◌, ◌++◌, length, get_or, take, drop, Some, None, Ok, Err, Option, Result, sym, refl, ap, ◌∙◌, subst, inl, inr, arith, length-append, length-drop, length-take}
 use Rattle.std.specs.List.{between}
 use Rattle.std.proofs.lemmas.Bool.Decides.{nat_tests}
-use Rattle.std.proofs.lemmas.Bool.{false≢true, cond-true, cond-false, le-ltb, eq-eqb, and_from, cases_lt}
+use Rattle.std.proofs.lemmas.Bool.{cond-true, cond-false, le-ltb, cases_lt}
 use Rattle.std.proofs.lemmas.List.{take_at, drop_at, take_all, length-take-le, get_or-take, get_or-drop, get_or_past, take-append-drop, drop-drop, drop_more}
 use Rattle.answer.specs.declared.fault.Fault.{Fault}
 use Rattle.answer.specs.declared.refusal.Refusal.{Refusal}
@@ -14,16 +14,12 @@ use Rattle.record.specs.declared.letter.Letter.TheVariants.{O, C, A, G, B, T}
 use Rattle.record.specs.Letters.{among, byte_of, letter_of}
 use Rattle.record.specs.Layout.{Contents, saying, contents, decoded, encoded, little, spread, note_in}
 use Rattle.record.specs.Reading.{first_unprintable, unless, parsed, parsed_as, reading, with_rest}
-use Rattle.record.specs.Writing.{after, is_note, writing, written}
+use Rattle.record.specs.Writing.{is_note, writing, written}
 use Rattle.record.specs.Laws.{ReadsBack}
 use Rattle.record.proofs.Numbers.{little_spread, spread_little}
 
-none_from : (o : Option ℕ) → not (is_some o) ≡ true → o ≡ None
-none_from None e = refl
-none_from (Some i) e = absurd (false≢true e)
-
 note_parts : (note : List ℕ) → is_note note ≡ true → (length note ≡ 8) × (first_unprintable note ≡ None)
-note_parts note e = grind (arith, nat_tests, none_from)
+note_parts note e = grind (arith, nat_tests)
 
 -- where writing is accepted, the note is one and the buffer has room
 accepted : (c : Contents) (out : List ℕ) → writing c out ≡ Ok tt → (is_note c.note ≡ true) × (ltb (length out) 16 ≡ false)
@@ -31,9 +27,7 @@ accepted c out e = grind arith
 
 -- a record is the front of the buffer that it was written into
 pub front_is : (c : Contents) (out : List ℕ) → writing c out ≡ Ok tt → length c.note ≡ 8 → written c out ≡ encoded c ++ drop 16 out
-front_is c out e h =
-    ap (λ (r : Result (Unit {0}) Fault). after r (encoded c) out) e
-    ∙ (let long : length (encoded c) ≡ 16 = omega arith in ap (λ (n : ℕ). encoded c ++ drop n out) long)
+front_is c out e h = grind arith
 
 -- what parses at the front of an input
 front : (number : ℕ) (c : Contents) (bs rest : List ℕ) → length bs ≡ 16 → parsed number bs ≡ Ok c → reading number (bs ++ rest) ≡ Ok (Some (c, rest))
@@ -71,9 +65,6 @@ pub reads_back : (e : Event) (before now : List ℕ) (r : Result (Unit {0}) Faul
     → r ≡ writing (contents e) before → now ≡ written (contents e) before → ReadsBack (contents e) before now r
 reads_back e before now (Ok u) l v w a = λ number. ap (reading number) a ∙ event_there e before number l v (sym w)
 reads_back e before now (Err f) l v w a = tt
-
-same_letter : (k l : Letter) → ◌≡◌ {A = Option Letter} (Some k) (Some l) → k ≡ l
-same_letter k l e = cc
 
 -- a byte that is a letter is how that letter is written
 spelt : (ls : List Letter) (byte : ℕ) (l : Letter) → among ls byte ≡ Some l → byte_of l ≡ byte
@@ -135,7 +126,7 @@ again bs l s h t =
     ∙ sym (drop_more bs 0 0 (omega arith))
 
 note_from : (note : List ℕ) → length note ≡ 8 → first_unprintable note ≡ None → is_note note ≡ true
-note_from note h n = and_from _ _ (eq-eqb _ _ h) (ap (λ (o : Option ℕ). not (is_some o)) n)
+note_from note h n = grind arith
 
 pub write_again : (c : Contents) (input out : List ℕ) (number : ℕ) → Small input → 16 ≤ length input → parsed number (take 16 input) ≡ Ok c → 16 ≤ length out
     → (writing c out ≡ Ok tt) × (written c out ≡ take 16 input ++ drop 16 out)
