@@ -1,9 +1,10 @@
 -- Writing and reading undo each other.
-use Rattle.std.proofs.Common.{◌≡◌, ℕ, ◌+◌, ◌^◌, ◌<◌, ◌≤◌, true, false, ltb, List, [], ◌∷◌, ◌++◌, length, get_or, take, drop, Some, None, Ok, Err, Option, Result, sym, refl, ap, ◌∙◌, subst, inl, inr, arith, length-append, length-drop, length-take}
+use Rattle.std.proofs.Common.{◌≡◌, ℕ, ◌+◌, ◌^◌, ◌<◌, ◌≤◌, true, false, ltb, List, [], ◌∷◌, ◌++◌, length, get_or, take, drop, Some, None, Ok, Err, Option, Result, sym, refl, ap, ◌∙◌, subst, arith, length-append, length-drop, length-take}
 use Rattle.std.specs.List.{between}
+use Rattle.std.proofs.lemmas.Grind.{common_steps}
 use Rattle.std.proofs.lemmas.Bool.Decides.{nat_tests}
-use Rattle.std.proofs.lemmas.Bool.{cond-true, cond-false, le-ltb, cases_lt}
-use Rattle.std.proofs.lemmas.List.{take_at, drop_at, take_all, length-take-le, get_or-take, get_or-drop, get_or_past, take-append-drop, drop-drop, drop_more}
+use Rattle.std.proofs.lemmas.Bool.{cond-true, cond-false, le-ltb}
+use Rattle.std.proofs.lemmas.List.{take_at, drop_at, take_all, length-take-le, get_or-drop, take-append-drop, drop-drop, drop_more}
 use Rattle.answer.specs.declared.fault.Fault.{Fault}
 use Rattle.answer.specs.declared.refusal.Refusal.{Refusal}
 use Rattle.answer.specs.declared.refusal.Refusal.TheVariants.{NoteNotPrintable}
@@ -96,12 +97,7 @@ abbrev pub Small : List ℕ → Type 0
 Small bs = (i : ℕ) → get_or bs i 0 < 2 ^ 8
 
 small_take : (n : ℕ) (bs : List ℕ) → Small bs → Small (take n bs)
-small_take n bs h i =
-    elim (cases_lt i n) [
-      | inl k ↦ subst (λ (x : ℕ). x < 2 ^ 8) (sym (get_or-take n bs i 0 k)) (h i)
-      | inr k ↦ (let past : length (take n bs) ≤ i = simp length-take (omega arith) in
-          subst (λ (x : ℕ). x < 2 ^ 8) (sym (get_or_past (take n bs) i 0 past)) (omega arith))
-    ]
+small_take n bs h i = grind (arith, common_steps, h i)
 
 -- the bytes of a part, from the number that they are
 part_again : (bs : List ℕ) (n k : ℕ) → n + k ≤ length bs → Small bs → spread k (little (take k (drop n bs))) ≡ take k (drop n bs)
@@ -135,7 +131,8 @@ write_again c input out number small enough read room =
     let long : length bs ≡ 16 = length-take-le 16 input enough in
     let p = parsed_from number bs _ c refl read in
     let same : encoded c ≡ bs = subst (λ (d : Contents). encoded d ≡ bs) p.says (again bs p.letter p.starts long (small_take 16 input small)) in
-    let eight : length c.note ≡ 8 = subst (λ (d : Contents). length d.note ≡ 8) p.says (simp (length-take, length-drop) (omega arith)) in
-    let clean : first_unprintable c.note ≡ None = subst (λ (d : Contents). first_unprintable d.note ≡ None) p.says p.clean in
+    let note : note_in bs ≡ c.note = ap (λ (d : Contents). d.note) p.says in
+    let eight : length c.note ≡ 8 = subst (λ (l : List ℕ). length l ≡ 8) note (simp (length-take, length-drop) (omega arith)) in
+    let clean : first_unprintable c.note ≡ None = subst (λ (l : List ℕ). first_unprintable l ≡ None) note p.clean in
     let ok : writing c out ≡ Ok tt = cond-true _ _ _ (note_from c.note eight clean) ∙ cond-false _ _ _ (le-ltb _ _ room) in
     (ok, front_is c out ok eight ∙ ap (λ (xs : List ℕ). xs ++ drop 16 out) same)
