@@ -63,15 +63,29 @@ mod tests {
         for (end, full) in [(0, 0), (1, 1), (15, 15), (16, 16), (40, 16)] {
             let mut reader = Slow { given: 0, end };
             let mut bytes = [0u8; 16];
-            let Ok(n) = fill(&mut reader, &mut bytes) else {
-                return Err(Fail::new("refused"));
-            };
+            let n = fill(&mut reader, &mut bytes)?;
             assert_eq!(rt; n, full);
-            for (i, b) in bytes.iter().enumerate() {
-                if i < full {
-                    assert_eq!(rt; *b as usize, i + 1);
-                }
+            for (b, given) in bytes[..n].iter().zip(1..=16) {
+                assert_eq!(rt; *b, given);
             }
+        }
+        Ok(())
+    }
+
+    // Two whole records and a half, and none after them.
+    #[test]
+    fn in_order(rt: HostRuntime) -> Result<(), Fail> {
+        let records = Records::new(Slow { given: 0, end: 40 });
+        for (record, (number, size, first)) in records.zip([
+            (1, 16, 1),
+            (2, 16, 17),
+            (3, 8, 33),
+            (4, 0, 0),
+        ]) {
+            let record = record?;
+            assert_eq!(rt; record.number, number);
+            assert_eq!(rt; record.bytes().len(), size);
+            assert_eq!(rt; record.bytes().first().copied().unwrap_or(0), first);
         }
         Ok(())
     }
