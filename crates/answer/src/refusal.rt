@@ -24,7 +24,7 @@ pub enum Refusal {
 }
 
 impl Refusal {
-    // The number by which crews and documents know it.
+    // The number by which crews and documents know it; `u8::from(why)` would not say that it is this number.
     pub fn number(self) -> u8
         ensures { result ≡ number_of self }
     {

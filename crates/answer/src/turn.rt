@@ -1,4 +1,6 @@
 // What an accepted call answers.
+ghost use Rattle.std.specs.Prelude.{◌≡◌};
+ghost use Rattle.answer.specs.Names.{kind_byte};
 
 // By which rule a turn was given away.
 #[derive(Clone, Copy, PartialEq, Eq, Debug)]
@@ -13,6 +15,21 @@ pub enum Kind {
     Extra,
     // nobody can send
     Idle,
+}
+
+// The letter by which a line names it.
+impl From<Kind> for u8 {
+    ghost from_gives = { λ kind byte. byte ≡ kind_byte kind };
+
+    fn from(kind: Kind) -> u8 {
+        match kind {
+            Kind::Normal => b'n',
+            Kind::Credit => b'c',
+            Kind::Kept => b'k',
+            Kind::Extra => b'x',
+            Kind::Idle => b'i',
+        }
+    }
 }
 
 // The place that sent, and the tag of its frame.
@@ -31,6 +48,7 @@ pub struct Turn {
     pub kind: Kind,
 }
 
+// No `Option<Turn>`: a call that is done has an answer, and its line says `ok`.
 #[derive(Clone, Copy, PartialEq, Eq, Debug)]
 pub enum Answer {
     Done,

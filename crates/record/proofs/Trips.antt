@@ -1,7 +1,7 @@
 -- Writing and reading undo each other.
 use Rattle.std.proofs.Common.{◌≡◌, ℕ, ◌+◌, ◌^◌, ◌<◌, ◌≤◌, true, false, not, eqb, ltb, List, [], ◌∷◌, ◌++◌, length, get_or, take, drop, is_some, Some, None, Ok, Err, Option, Result, sym, refl, ap, ◌∙◌, subst, inl, inr, arith, length-append, length-drop, length-take}
 use Rattle.std.specs.List.{between}
-use Rattle.std.proofs.lemmas.Bool.{false≢true, cases_Bool, and_parts, eqb-true, ltb-false, cond-true, cond-false, le-ltb, eq-eqb, and_from, cases_lt}
+use Rattle.std.proofs.lemmas.Bool.{false≢true, cases_Bool, and_parts, eqb-true, cond-true, cond-false, le-ltb, eq-eqb, and_from, cases_lt}
 use Rattle.std.proofs.lemmas.List.{take_at, drop_at, take_all, length-take-le, get_or-take, get_or-drop, get_or_past, take-append-drop, drop-drop, drop_more}
 use Rattle.answer.specs.declared.fault.Fault.{Fault}
 use Rattle.answer.specs.declared.refusal.Refusal.{Refusal}
@@ -14,7 +14,7 @@ use Rattle.record.specs.Letters.{among, byte_of, letter_of}
 use Rattle.record.specs.Layout.{Contents, saying, contents, decoded, encoded, little, spread, note_in}
 use Rattle.record.specs.Reading.{first_unprintable, unless, parsed, parsed_as, reading, with_rest}
 use Rattle.record.specs.Writing.{after, is_note, writing, written}
-use Rattle.record.specs.Laws.{ReadsBack, WritesBack}
+use Rattle.record.specs.Laws.{ReadsBack}
 use Rattle.record.proofs.Apart.{ok≢err, some≢none}
 use Rattle.record.proofs.Numbers.{little_spread, spread_little}
 
@@ -112,23 +112,7 @@ parsed_from number bs (Some l) c h e =
     let b = unless_ok _ _ _ _ _ a.1 in
     record { letter = l; starts = spelt (O ∷ C ∷ A ∷ G ∷ B ∷ T ∷ []) (get_or bs 0 0) l h; clean = b.0; says = same_ok _ c b.1 }
 
-rest_ok : (rest r : List ℕ) (x : Result Contents Fault) (c : Contents) → with_rest rest x ≡ Ok (Some (c, r)) → x ≡ Ok c
-rest_ok rest r (Ok d) c e =
-    let pair : (d, rest) ≡ (c, r) = cc in
-    let same : d ≡ c = ap (λ (q : Contents × List ℕ). q.0) pair in
-    ap (λ (x : Contents). Ok x) same
-rest_ok rest r (Err f) c e = ok≢err (sym e)
-
-was_read : (number : ℕ) (input : List ℕ) (c : Contents) (rest : List ℕ) → reading number input ≡ Ok (Some (c, rest))
-    → (16 ≤ length input) × (parsed number (take 16 input) ≡ Ok c)
-was_read number [] c rest e = let z : ◌≡◌ {A = ℕ} 0 1 = cc in absurd (omega arith)
-was_read number (b ∷ bs) c rest e =
-    elim (cases_Bool (ltb (length (b ∷ bs)) 16)) [
-      | inl s ↦ ok≢err (sym e ∙ cond-true _ _ _ s)
-      | inr l ↦ (ltb-false _ _ l, rest_ok _ rest _ c (sym (cond-false _ _ _ l) ∙ e))
-    ]
-
-abbrev Small : List ℕ → Type 0
+abbrev pub Small : List ℕ → Type 0
 Small bs = (i : ℕ) → get_or bs i 0 < 2 ^ 8
 
 small_take : (n : ℕ) (bs : List ℕ) → Small bs → Small (take n bs)
@@ -164,21 +148,14 @@ again bs l s h t =
 note_from : (note : List ℕ) → length note ≡ 8 → first_unprintable note ≡ None → is_note note ≡ true
 note_from note h n = and_from _ _ (eq-eqb _ _ h) (ap (λ (o : Option ℕ). not (is_some o)) n)
 
-write_again : (c : Contents) (input rest out : List ℕ) (number : ℕ) → Small input → reading number input ≡ Ok (Some (c, rest)) → 16 ≤ length out
+pub write_again : (c : Contents) (input out : List ℕ) (number : ℕ) → Small input → 16 ≤ length input → parsed number (take 16 input) ≡ Ok c → 16 ≤ length out
     → (writing c out ≡ Ok tt) × (written c out ≡ take 16 input ++ drop 16 out)
-write_again c input rest out number small e room =
-    let r = was_read number input c rest e in
+write_again c input out number small enough read room =
     let bs : List ℕ = take 16 input in
-    let long : length bs ≡ 16 = length-take-le 16 input r.0 in
-    let p = parsed_from number bs _ c refl r.1 in
+    let long : length bs ≡ 16 = length-take-le 16 input enough in
+    let p = parsed_from number bs _ c refl read in
     let same : encoded c ≡ bs = subst (λ (d : Contents). encoded d ≡ bs) p.says (again bs p.letter p.starts long (small_take 16 input small)) in
     let eight : length c.note ≡ 8 = subst (λ (d : Contents). length d.note ≡ 8) p.says (simp (length-take, length-drop) (omega arith)) in
     let clean : first_unprintable c.note ≡ None = subst (λ (d : Contents). first_unprintable d.note ≡ None) p.says p.clean in
     let ok : writing c out ≡ Ok tt = cond-true _ _ _ (note_from c.note eight clean) ∙ cond-false _ _ _ (le-ltb _ _ room) in
     (ok, front_is c out ok eight ∙ ap (λ (xs : List ℕ). xs ++ drop 16 out) same)
-
-pub writes_back : (input : List ℕ) (number : ℕ) → ((i : ℕ) → get_or input i 0 < 2 ^ 8) → (x : Result (Option (Contents × List ℕ)) Fault)
-    → x ≡ reading number input → WritesBack input x
-writes_back input number small (Ok (Some x)) e = λ out room. write_again x.0 input x.1 out number small (sym e) room
-writes_back input number small (Ok None) e = tt
-writes_back input number small (Err f) e = tt

@@ -1,12 +1,8 @@
 -- The six letters that a record can begin with, each by the byte that it is written as.
-use Rattle.std.specs.Prelude.{ℕ, cond, List, [], ◌∷◌, Some, None, codes, Option, ◌==◌, slice_index}
-use Prim.Native.String.{String}
+use Rattle.std.specs.Prelude.{ℕ, cond, List, [], ◌∷◌, Some, None, Option, ◌==◌}
+use Rattle.answer.specs.Names.{code}
 use Rattle.record.specs.declared.letter.Letter.{Letter}
 use Rattle.record.specs.declared.letter.Letter.TheVariants.{O, C, A, G, B, T}
-
--- the code of a text of one character
-abbrev pub code : String → ℕ
-code text = slice_index (codes text) 0
 
 abbrev pub byte_of : Letter → ℕ
 byte_of O = code "O"

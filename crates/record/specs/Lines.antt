@@ -1,24 +1,16 @@
 -- The line that tells of a record: its number, its letter, the result and the note, with single spaces, and a newline last.
 -- Where no event was read, `?` stands for the letter, and there is no note.
 use Rattle.std.specs.Prelude.{ℕ, cond, List, [], ◌∷◌, ◌++◌, length, take, Some, None, Ok, Err, codes, decimal, Option, Result, nat_lt}
+use Rattle.answer.specs.Names.{code, kind_byte}
 use Rattle.answer.specs.Numbers.{number_of}
 use Rattle.answer.specs.declared.refusal.Refusal.{Refusal}
 use Rattle.answer.specs.declared.refusal.Refusal.TheVariants.{BufferTooShort}
 use Rattle.answer.specs.declared.turn.Answer.{Answer}
 use Rattle.answer.specs.declared.turn.Answer.TheVariants.{Done, Turn as Given}
-use Rattle.answer.specs.declared.turn.Kind.{Kind}
-use Rattle.answer.specs.declared.turn.Kind.TheVariants.{Normal, Credit, Kept, Extra, Idle}
 use Rattle.answer.specs.declared.turn.Sent.{Sent}
 use Rattle.answer.specs.declared.turn.Turn.{Turn}
-use Rattle.record.specs.Letters.{code, byte_of}
+use Rattle.record.specs.Letters.{byte_of}
 use Rattle.record.specs.Layout.{Contents}
-
-abbrev pub kind_byte : Kind → ℕ
-kind_byte Normal = code "n"
-kind_byte Credit = code "c"
-kind_byte Kept = code "k"
-kind_byte Extra = code "x"
-kind_byte Idle = code "i"
 
 -- the sender and the tag, or that there is none
 abbrev pub sent_text : Option Sent → List ℕ
