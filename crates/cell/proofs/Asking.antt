@@ -11,4 +11,4 @@ pub stayed_members : (l : Line) (t : Table) → stayed l (in_list l t) t ≡ off
 unfolding stayed
 stayed_members l [] = refl
 stayed_members l (s ∷ t) =
-    ap (λ (b : Bool). entry b s ∷ stayed l (in_list l t) t) (twice (in_line l s)) ∙ ap (λ (es : List Entry). entry (in_line l s) s ∷ es) (stayed_members l t)
+    ap (λ (b : Bool). entry b s ∷ stayed l (in_list l t) t) (twice (in_line l s)) ∙ ap (λ (es : List (Option Entry)). entry (in_line l s) s ∷ es) (stayed_members l t)

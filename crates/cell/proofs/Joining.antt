@@ -2,7 +2,6 @@
 use Rattle.std.proofs.Common.{◌≡◌, ℕ, zero, suc, ◌+◌, ◌<◌, Bool, true, false, cond, not, ◌&&◌, ◌||◌, List, [], ◌∷◌, length, get_or, set, sym, refl, ap, ◌∙◌, arith}
 use Rattle.std.proofs.Math.Bool.{and_self, not-and_self, and_comm}
 use Rattle.std.proofs.lemmas.Bool.{and_parts, or_parts, not-true, cond-true, cond-false}
-use Rattle.chooser.specs.Offers.{idle}
 use Rattle.model.specs.Cell.{Cell, told, joins, mark_from}
 use Rattle.model.specs.Lists.{Entry, Line, Credit, Extra, in_line, in_list, entry, offer, stayed}
 use Rattle.model.specs.Meaning.{Meaning}
@@ -25,15 +24,15 @@ unfolding stayed at change
 stayed_one l [] i s e = refl
 stayed_one l (x ∷ t) zero s e =
     ap (λ (b : Bool). entry (b && in_line l s) s ∷ stayed l (in_list l t) t) e
-    ∙ ap (λ (es : List Entry). idle ∷ es) (stayed_members l t)
+    ∙ ap (λ (es : List (Option Entry)). None ∷ es) (stayed_members l t)
     ∙ sym (ap (λ (b : Bool). entry b x ∷ offer l t) e)
 stayed_one l (x ∷ t) (suc i) s e =
     ap (λ (b : Bool). entry b x ∷ stayed l (in_list l t) (change t i (λ _. s))) (and_self (in_line l x))
-    ∙ ap (λ (es : List Entry). entry (in_line l x) x ∷ es) (stayed_one l t i s e)
+    ∙ ap (λ (es : List (Option Entry)). entry (in_line l x) x ∷ es) (stayed_one l t i s e)
 
 module _ {C : Type 0} (M : Meaning C) (l : Line) where
   -- where nobody joined, the chooser hears nothing
-  told_nothing : (stay : List Entry) (k : ℕ) (before : List Bool) (t : Table) (c : C) → any_joins l before t ≡ false →
+  told_nothing : (stay : List (Option Entry)) (k : ℕ) (before : List Bool) (t : Table) (c : C) → any_joins l before t ≡ false →
       told M l stay k before t c ≡ c
   unfolding told any_joins
   told_nothing stay k [] t c e = refl
@@ -53,7 +52,7 @@ module _ {C : Type 0} (M : Meaning C) (l : Line) where
   none_new (s ∷ t) = ap (λ (b : Bool). b || any_joins l (in_list l t) t) (not-and_self (in_line l s)) ∙ none_new t
 
   -- of one place that is changed, at the most, it hears
-  told_one : (stay : List Entry) (k i : ℕ) (t : Table) (s : Session) (c : C) → i < length t →
+  told_one : (stay : List (Option Entry)) (k i : ℕ) (t : Table) (s : Session) (c : C) → i < length t →
       told M l stay k (in_list l t) (change t i (λ _. s)) c
       ≡ cond (not (in_line l (at t i)) && in_line l s) (M.joined c l (k + i) stay) c
   unfolding told at change

@@ -22,7 +22,7 @@ if_sound_is x f o = by (sound o.entries) refl
     by true e = ap f (λ i. record { entries = o.entries; ok = Bool-set _ _ e o.ok i })
     by false e = absurd (both_ways (sound o.entries) e o.ok)
 
-module _ {C : Type 0} (M : Meaning C) (l : Line) (stay : List Entry) (before : List Bool) (rows : List Row) (i : ℕ) (c : C) where
+module _ {C : Type 0} (M : Meaning C) (l : Line) (stay : List (Option Entry)) (before : List Bool) (rows : List Row) (i : ℕ) (c : C) where
   abbrev pub Left : ℕ → C → C
   Left k d = told M l stay k (drop k before) (drop k (table_of rows)) d
 

@@ -32,7 +32,7 @@ impl<C: Chooser> Holder<C> {
     {
         let place = self.peek(line, offer)?;
         // always there: who is picked is offered
-        let entry = offer.at(place)?;
+        let entry = offer.at(place)??;
         self.chooser.served(line, place, length, entry.price);
         Some(place)
     }

@@ -15,4 +15,4 @@ returns g c =
     let table = table_of c.args.rows.now in
     let M = meaning g.C.Chooser.pick g.C.Chooser.after_served g.C.Chooser.after_joined g.C.Chooser.after_cleared in
     let offered = c.offer-offer.ensures ∙ ap (λ (bs : List Bool). stayed line bs table) c.requires.members ∙ stayed_members line table in
-    c.ask.ensures ∙ sym (if_sound_is None (g.C.Chooser.pick now line) c.offer-offer.result) ∙ ap (λ (es : List Entry). M.pick now line es) offered
+    c.ask.ensures ∙ sym (if_sound_is None (g.C.Chooser.pick now line) c.offer-offer.result) ∙ ap (λ (es : List (Option Entry)). M.pick now line es) offered

@@ -13,7 +13,7 @@ returns-then-stands_in g c =
     let place = c.args.place in
     let now = c.args.chooser.now in
     c.joined.ensures ∙ sym (if_sound_is now (g.C.Chooser.after_joined now line place) c.offer_all-stay.result)
-    ∙ ap (λ (es : List Entry). M.joined now line place es) c.offer_all-stay.ensures
+    ∙ ap (λ (es : List (Option Entry)). M.joined now line place es) c.offer_all-stay.ensures
     ∙ sym (one_joins M line c.args.rows.now place (seen c.args.row.now) now (omega arith) c.index-rows-place.result _ _
     c.stands_in.ensures c.stands_in-2.ensures c.if-stands_in.true)
 
