@@ -30,13 +30,11 @@ impl<C: Chooser> Holder<C> {
         ensures value { result ≡ C.pick self.old.chooser line offer.now }
         ensures after { self.new.chooser ≡ served_pick C.after_served self.old.chooser line offer.now.entries length result }
     {
-        let picked = self.peek(line, offer);
-        if let Some(place) = picked {
-            if let Some(Some(entry)) = offer.at(place) {
-                self.chooser.served(line, place, length, entry.price);
-            }
-        }
-        picked
+        let place = self.peek(line, offer)?;
+        // always there: who is picked is offered
+        let entry = offer.at(place)??;
+        self.chooser.served(line, place, length, entry.price);
+        Some(place)
     }
 
     // Every place joins, in ascending order.

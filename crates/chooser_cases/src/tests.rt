@@ -1,6 +1,6 @@
 // What the choosers pick, and what tellings do to their counts.
 use super::{Holder, without};
-use chooser::{Chooser, Line, Offer};
+use chooser::{Chooser, Entry, Line, Offer};
 use keys::{Count, Debt, VirtualTime, least};
 use largest_debt::LargestDebt;
 use least_served::LeastServed;
@@ -74,11 +74,14 @@ fn offers_take_what_is_sound(rt: HostRuntime) -> Result<(), Fail> {
     }
     offer.put(3, -3_072_000_000_000, Rate::new(7)?);
     assert!(rt; offer.offers(3) && !offer.offers(64) && !offer.offers(67));
-    let entry = offer.at(3).flatten().ok_or("no entry")?;
-    assert!(rt; entry.lag == -3_072_000_000_000 && entry.rate == 7 && entry.price == 102_960);
-    let other = offer.at(4).ok_or("no such place")?;
-    assert!(rt; other.is_none());
-    assert!(rt; offer.at(64).is_none());
+    let entry = Entry {
+        lag: -3_072_000_000_000,
+        rate: 7,
+        price: 102_960,
+    };
+    assert_eq!(rt; offer.at(3), Some(Some(entry)));
+    assert_eq!(rt; offer.at(4), Some(None));
+    assert_eq!(rt; offer.at(64), None);
     Ok(())
 }
 

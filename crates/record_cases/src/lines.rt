@@ -199,11 +199,10 @@ fn letters_are_their_characters(rt: HostRuntime) -> Result<(), Fail> {
         ('B', b'B'),
         ('T', b'T'),
     ] {
-        let letter = Letter::of(c).ok_or("unknown")?;
-        assert_eq!(rt; letter.byte(), b);
+        assert_eq!(rt; u8::from(Letter::try_from(c)?), b);
     }
     for c in ['o', 't', '?', ' ', 'Ö', '\0'] {
-        assert!(rt; Letter::of(c).is_none());
+        assert_eq!(rt; Letter::try_from(c), Err(Refusal::UnknownLetter));
     }
     Ok(())
 }
