@@ -7,7 +7,7 @@ use Rattle.session.specs.Seen.{seen}
 use Rattle.cell.specs.View.{view}
 use Rattle.cell.proofs.Joining.{put_told}
 use Rattle.cell.proofs.Offering.{offerable}
-use Rattle.cell.proofs.Sized.{rows_sized}
+use Rattle.cell.proofs.Rows.{rows_sized}
 use Rattle.cell.proofs.state.Cell.put.Goals as goal
 
 pub invariant_of-roll : goal.invariant_of-roll
