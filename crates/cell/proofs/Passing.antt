@@ -20,7 +20,7 @@ use Rattle.model.proofs.Senders.{Rightly, decides}
 use Rattle.model.proofs.Turn.{apart_credit, apart_extra}
 use Rattle.model.proofs.Uses.{lag_low, stayed_sound, turn_midway}
 use Rattle.table.proofs.Dues.{idle_is}
-use Rattle.cell.specs.Offerable.{Offerable}
+use Rattle.cell.specs.Found.{Offerable}
 use Rattle.cell.specs.Plans.{unless}
 use Rattle.cell.specs.Room.{HasRoom}
 use Rattle.cell.specs.Turns.{Accepted}
