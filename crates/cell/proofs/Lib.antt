@@ -1,5 +1,5 @@
 pub mod Offering
-pub mod Rows
+pub mod Sized
 pub mod Steps
 pub mod Telling
 pub mod Turning

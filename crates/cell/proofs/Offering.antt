@@ -1,8 +1,8 @@
 -- Whose books are in order can make an offer of anybody who is in a list.
-use Rattle.std.proofs.Common.{◌≡◌, ℕ, ◌≤◌, Bool, true, false, not, ◌&&◌, ◌⊎◌, length, get_or, nat_abs, sym, refl, ap, ◌∙◌, inl, inr, arith}
+use Rattle.std.proofs.Common.{◌≡◌, ℕ, ◌≤◌, Bool, true, false, not, ◌&&◌, ◌⊎◌, length, get_or, nat_abs, None, sym, refl, ap, ◌∙◌, inl, inr, arith}
 use Rattle.std.proofs.lemmas.Bool.{cases_Bool, both_ways, and_parts}
 use Rattle.chooser.proofs.Sound.{offered_sound, sound_from}
-use Rattle.chooser.specs.Offers.{idle, lag_bound, sound_entry}
+use Rattle.chooser.specs.Offers.{lag_bound, sound_entry}
 use Rattle.model.proofs.Books.{ordered_of, lag_low}
 use Rattle.model.proofs.Tables.{at_is}
 use Rattle.model.specs.Cell.{Cell}
@@ -11,7 +11,7 @@ use Rattle.model.specs.Session.{Session, vacant, waiting, able, lags}
 use Rattle.model.specs.Sound.{Orderly, Books}
 use Rattle.model.specs.Table.{Table, at}
 use Rattle.table.proofs.Offering.{length_stayed, getD_stayed}
-use Rattle.cell.specs.Found.{Offerable}
+use Rattle.cell.specs.Offerable.{Offerable}
 
 -- nobody waits at a place that is not open
 waits_booked : {mark turns : ℕ} (s : Session) → Orderly mark turns s → waiting s ≡ true → s.booked ≡ true
@@ -47,7 +47,7 @@ module _ {keep mark turns : ℕ} {t : Table} (b : Books keep mark turns t) where
       let same : length before ≡ length t = n ∙ sym b.size in
       sound_from (stayed l before t) (length_stayed l before t same ∙ n)
       (λ i h.
-      let is : get_or (stayed l before t) i idle ≡ entry (get_or before i false && in_line l (at t i)) (at t i) =
-      getD_stayed l before t i idle false vacant same (omega arith)
+      let is : get_or (stayed l before t) i None ≡ entry (get_or before i false && in_line l (at t i)) (at t i) =
+      getD_stayed l before t i None false vacant same (omega arith)
       ∙ ap (λ (s : Session). entry (get_or before i false && in_line l s) s) (sym (at_is t i)) in
       ap sound_entry is ∙ entry_sound l i (get_or before i false))

@@ -1,4 +1,5 @@
 pub mod Found
+pub mod Offerable
 pub mod View
 pub mod Plans
 pub mod Answers

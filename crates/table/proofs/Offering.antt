@@ -1,5 +1,5 @@
 -- Lists made from a table place by place.
-use Rattle.std.proofs.Common.{◌≡◌, ℕ, zero, suc, ◌<◌, Bool, true, ◌&&◌, List, [], ◌∷◌, length, get_or, replicate, refl, ap, ◌∙◌, arith}
+use Rattle.std.proofs.Common.{◌≡◌, ℕ, zero, suc, ◌<◌, Bool, true, ◌&&◌, List, [], ◌∷◌, Option, length, get_or, replicate, refl, ap, ◌∙◌, arith}
 use Rattle.chooser.specs.declared.entry.Entry.{Entry}
 use Rattle.chooser.specs.declared.entry.Line.{Line}
 use Rattle.model.specs.Lists.{in_line, entry, offer, stayed}
@@ -15,7 +15,7 @@ length_stayed l [] t e = refl
 length_stayed l (b ∷ bs) [] e = absurd (omega arith)
 length_stayed l (b ∷ bs) (s ∷ t) e = ap suc (length_stayed l bs t (omega arith))
 
-pub getD_stayed : (l : Line) (bs : List Bool) (t : Table) (i : ℕ) (e : Entry) (b : Bool) (d : Session) → length bs ≡ length t →
+pub getD_stayed : (l : Line) (bs : List Bool) (t : Table) (i : ℕ) (e : Option Entry) (b : Bool) (d : Session) → length bs ≡ length t →
     i < length bs → get_or (stayed l bs t) i e ≡ entry (get_or bs i b && in_line l (get_or t i d)) (get_or t i d)
 unfolding stayed
 getD_stayed l [] t i e b d same h = absurd (omega arith)

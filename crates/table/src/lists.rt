@@ -1,14 +1,14 @@
 // The two lists from which a chooser picks.
-ghost use Rattle.std.specs.Prelude.{◌≡◌, ◌<◌};
+ghost use Rattle.std.specs.Prelude.{◌≡◌, ◌<◌, false, slice_index_or};
 ghost use Rattle.model.specs.Lists.{in_line, in_list, stayed};
 ghost use Rattle.model.specs.Table.{at};
+ghost use Rattle.session.specs.Seen.{stay};
 ghost use Rattle.table.specs.Joiners.{any_joins};
 ghost use Rattle.table.specs.Places.{table_of};
 
 use chooser::{Entry, Line};
 use session::Row;
 use std::array;
-use tariff::LINK;
 
 // Who stands in a list, place by place.
 #[tactic(auto, using(crate::proofs::Tables::at_table))]
@@ -33,18 +33,14 @@ pub fn anybody_joined(rows: &[Row; 64], line: Line, before: &[bool; 64]) -> bool
 }
 
 // What an offer says of those who stood in a list before and still do.
-pub fn stayed(rows: &[Row; 64], line: Line, before: &[bool; 64]) -> [Entry; 64]
+#[tactic(auto, using(crate::proofs::Tables::at_table))]
+pub fn stayed(rows: &[Row; 64], line: Line, before: &[bool; 64]) -> [Option<Entry>; 64]
     ensures { result ≡ stayed line before.now (table_of rows.now) }
 {
-    let idle = Entry {
-        offered: false,
-        lag: 0,
-        rate: 1,
-        price: LINK,
-    };
-    let mut entries = [idle; 64];
-    for i in 0..64usize {
-        entries[i] = rows[i].stays(line, before[i]);
-    }
-    entries
+    array::from_fn(
+        |place|
+            requires { place < 64 }
+            ensures { result ≡ stay line (slice_index_or before.entry.now place false) (at (table_of rows.entry.now) place) }
+        { rows[place].stays(line, before[place]) },
+    )
 }

@@ -4,6 +4,4 @@ use Rattle.model.proofs.Meant.{lawful}
 use Rattle.model.proofs.keeps_its_promises.Goals as goal
 
 pub returns : goal.returns
-returns g c =
-    promises _
-    (lawful g.C.Chooser.pick g.C.Chooser.after_served g.C.Chooser.after_joined g.C.Chooser.after_cleared g.met.C.Chooser.picks)
+returns g c = promises _ (lawful g.C.Chooser g.met.C.Chooser.picks)

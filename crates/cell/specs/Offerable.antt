@@ -1,0 +1,10 @@
+-- When a table can be offered.
+use Rattle.std.specs.Prelude.{◌≡◌, Bool, true, List, length}
+use Rattle.chooser.specs.Offers.{sound}
+use Rattle.model.specs.Limits.{places}
+use Rattle.model.specs.Lists.{Line, stayed}
+use Rattle.model.specs.Table.{Table}
+
+-- whoever stayed in a list can be offered
+abbrev pub Offerable : Table → Type 0
+Offerable t = (l : Line) (before : List Bool) → length before ≡ places → sound (stayed l before t) ≡ true
