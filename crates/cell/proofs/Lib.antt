@@ -1,5 +1,4 @@
-pub mod Offering
-pub mod Sized
+pub mod Rows
 pub mod Steps
 pub mod Telling
 pub mod Turning

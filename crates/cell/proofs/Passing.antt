@@ -18,14 +18,13 @@ use Rattle.model.proofs.Chosen.{chosen_some}
 use Rattle.model.proofs.Tables.{change_same}
 use Rattle.model.proofs.Senders.{Rightly, decides}
 use Rattle.model.proofs.Turn.{apart_credit, apart_extra}
-use Rattle.model.proofs.Uses.{lag_low, turn_midway}
+use Rattle.model.proofs.Uses.{lag_low, stayed_sound, turn_midway}
 use Rattle.table.proofs.Dues.{idle_is}
-use Rattle.cell.specs.Offerable.{Offerable}
+use Rattle.cell.specs.Found.{Offerable}
 use Rattle.cell.specs.Plans.{unless}
 use Rattle.cell.specs.Room.{HasRoom}
 use Rattle.cell.specs.Turns.{Accepted}
 use Rattle.cell.specs.Ways.{handed_to, only}
-use Rattle.cell.proofs.Offering.{offerable}
 use Rattle.cell.proofs.Steps.{Makes, makes_of, planned}
 
 -- ---- ways
@@ -80,7 +79,7 @@ turn_accepted x c e b = record { turns = x.turns; left = turn_left x c e; books 
 -- so its sessions can be offered, and have room for it
 module _ {keep mark : ℕ} {t : Table} {c : ℕ} (a : Accepted keep mark t c) where
   pub can_offer : Offerable t
-  can_offer = offerable a.books
+  can_offer = stayed_sound a.books
 
   pub has_room : (j : ℕ) → HasRoom (at t j)
   has_room j =
@@ -99,7 +98,7 @@ module _ {C : Type 0} (M : Meaning C) (law : Lawful M) (keep mark : ℕ) (t : Ta
       ap (λ (b : Bool). cond b (Some NoneActive) (cond (leb most_turns a.turns) (Some TurnsUsedUp) None)) some
       ∙ ap (λ (b : Bool). cond b (Some TurnsUsedUp) None) (lt-leb most_turns a.turns a.left)
 
-  pub turn_is : step M cell turn ≡ turn_of M cell c
+  turn_is : step M cell turn ≡ turn_of M cell c
   unfolding step accepted
   turn_is = ap (outcome M cell turn) goes ∙ ap (λ (o : Option ℕ). turn_of M cell (found o)) a.next
 
@@ -136,4 +135,4 @@ module _ {C : Type 0} (M : Meaning C) (law : Lawful M) (keep mark : ℕ) (t : Ta
       unfolding turn_after settled
       can_offer_after u v e d =
           let is_left = ap (λ (o : Outcome M). o.cell.table) turn_is in
-          subst Offerable (is_left ∙ sym (d ∙ ap departures (e ∙ left))) (offerable (step_sound M law cell turn a.books))
+          subst Offerable (is_left ∙ sym (d ∙ ap departures (e ∙ left))) (stayed_sound (step_sound M law cell turn a.books))

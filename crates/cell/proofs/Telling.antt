@@ -19,7 +19,7 @@ use Rattle.chooser.specs.declared.offer.Offer.{Offer}
 use Rattle.chooser.specs.declared.Chooser.{Ghosts}
 use Rattle.model.specs.Cell.{told}
 use Rattle.model.specs.Lists.{Entry, Line, in_line}
-use Rattle.model.specs.Meaning.{Meaning, if_sound, meant}
+use Rattle.model.specs.Meaning.{if_sound, meant}
 use Rattle.session.specs.Seen.{seen}
 use Rattle.session.specs.declared.row.Row.{Row}
 use Rattle.table.specs.Places.{table_of}
@@ -40,53 +40,55 @@ module _ {C : Type 0} (g : Ghosts C) (c : C) (l : Line) (o : Offer) (es : List (
   pub joined_is : (k : ℕ) → g.after_joined c l k o ≡ (meant g).joined c l k es
   joined_is k = sym (if_sound_is c (g.after_joined c l k) o) ∙ ap ((meant g).joined c l k) e
 
--- who joined is told place by place
-module _ {C : Type 0} (M : Meaning C) (l : Line) (stay : List (Option Entry)) where
+-- who joined is told place by place, with the offer of those who stayed
+module _ {C : Type 0} (g : Ghosts C) (l : Line) (o : Offer) where
   abbrev pub tells : C → ℕ × (Row × Bool) → C
-  tells c p = cond (not p.1.1 && in_line l (seen p.1.0)) (M.joined c l p.0 stay) c
+  tells c p = cond (not p.1.1 && in_line l (seen p.1.0)) ((meant g).joined c l p.0 o.entries) c
 
-  pub told_each : (k : ℕ) (rows : List Row) (before : List Bool) (c : C) →
-      fold tells c (enumerate_from k (zip rows before)) ≡ told M l stay k before (table_of rows) c
+  told_each : (k : ℕ) (rows : List Row) (before : List Bool) (c : C) →
+      fold tells c (enumerate_from k (zip rows before)) ≡ told (meant g) l o.entries k before (table_of rows) c
   unfolding told table_of
   told_each k [] [] c = refl
   told_each k [] (b ∷ bs) c = refl
   told_each k (r ∷ rs) [] c = refl
   told_each k (r ∷ rs) (b ∷ bs) c =
       let next = tells c (k, (r, b)) in
-      told_each (k + 1) rs bs next ∙ ap (λ n. told M l stay n bs (table_of rs) next) (add-one k)
+      told_each (k + 1) rs bs next ∙ ap (λ n. told (meant g) l o.entries n bs (table_of rs) next) (add-one k)
 
   -- it joined, or it did not
   module _ (k : ℕ) (r : Row) (was : Bool) (c : C) where
-    pub tells_joiner : was ≡ false → in_line l (seen r) ≡ true → M.joined c l k stay ≡ tells c (k, (r, was))
-    tells_joiner new is = sym (cond-true _ _ _ (and_from _ _ (ap not new) is))
+    pub tells_joiner : (d : C) → d ≡ g.after_joined c l k o → was ≡ false → in_line l (seen r) ≡ true → d ≡ tells c (k, (r, was))
+    tells_joiner d h new is = h ∙ joined_is g c l o o.entries refl k ∙ sym (cond-true _ _ _ (and_from _ _ (ap not new) is))
 
     pub tells_member : was ≡ true → c ≡ tells c (k, (r, was))
-    tells_member old = ap (λ (b : Bool). cond (not b && in_line l (seen r)) (M.joined c l k stay) c) (sym old)
+    tells_member old = ap (λ (b : Bool). cond (not b && in_line l (seen r)) ((meant g).joined c l k o.entries) c) (sym old)
 
     pub tells_outsider : was ≡ false → in_line l (seen r) ≡ false → c ≡ tells c (k, (r, was))
     tells_outsider new out = sym (cond-false _ _ _ (ap (λ (b : Bool). not b && in_line l (seen r)) new ∙ out))
 
--- the loop that does so, one place more and at its end
-module _ {C : Type 0} (M : Meaning C) (l : Line) (stay : List (Option Entry)) (rows : List Row) (before : List Bool)
-    (s : Enumerate (Zip (Iter Row) (Iter Bool))) (a : iter_rest s.iter.a ≡ rows) (b : iter_rest s.iter.b ≡ before) (z : s.count ≡ 0)
-    (xs : List (ℕ × (Bor Row × Bor Bool))) (t : Enumerate (Zip (Iter Row) (Iter Bool))) (y : Yields (enumerate_steps (zips fronts fronts)) s xs t)
-    (r : Option (ℕ × (Bor Row × Bor Bool))) (u : Enumerate (Zip (Iter Row) (Iter Bool))) where
-  abbrev each : List (ℕ × (Row × Bool))
-  each = enumerate_from 0 (zip rows before)
+  -- the loop that does so over all places, one place more and at its end
+  module _ (rows : List Row) (before : List Bool)
+      (s : Enumerate (Zip (Iter Row) (Iter Bool))) (a : iter_rest s.iter.a ≡ rows) (b : iter_rest s.iter.b ≡ before) (z : s.count ≡ 0)
+      (xs : List (ℕ × (Bor Row × Bor Bool))) (t : Enumerate (Zip (Iter Row) (Iter Bool))) (y : Yields (enumerate_steps (zips fronts fronts)) s xs t)
+      (r : Option (ℕ × (Bor Row × Bor Bool))) (u : Enumerate (Zip (Iter Row) (Iter Bool))) where
+    abbrev each : List (ℕ × (Row × Bool))
+    each = enumerate_from 0 (zip rows before)
 
-  abbrev tell : C → ℕ × (Row × Bool) → C
-  tell = tells M l stay
+    road : YieldsList (enumerate_steps (zips fronts fronts)) (λ p. (p.0, (p.1.0.now, p.1.1.now))) s each
+    road = YieldsList-from_enumerate (YieldsList-from_zip (YieldsList-from_slice rows a) (YieldsList-from_slice before b)) z
 
-  road : YieldsList (enumerate_steps (zips fronts fronts)) (λ p. (p.0, (p.1.0.now, p.1.1.now))) s each
-  road = YieldsList-from_enumerate (YieldsList-from_zip (YieldsList-from_slice rows a) (YieldsList-from_slice before b)) z
+    pub told_turn : (k : ℕ) (row : Bor Row) (was : Bor Bool) (first c d : C) → r ≡ Some (k, (row, was)) → enumerate_steps (zips fronts fronts) t r u →
+        d ≡ tells c (k, (row.now, was.now)) → fold tells c (drop (length xs) each) ≡ fold tells first each →
+        fold tells d (drop (length (xs ++ (k, (row, was)) ∷ [])) each) ≡ fold tells first each
+    told_turn k row was first c d e h is so_far =
+        let n = YieldsList-turn road xs t y r u (k, (row, was)) e h in
+        (λ i. fold tells (is i) (drop (length_push xs (k, (row, was)) i) each))
+        ∙ ap (λ p. fold tells (tells c p) (drop (length xs + 1) each)) n.1
+        ∙ sym (at_drop_more (fold tells c) each (length xs) (k, (row.now, was.now)) n.0) ∙ so_far
 
-  pub told_turn : (k : ℕ) (row : Bor Row) (was : Bor Bool) (c d : C) → r ≡ Some (k, (row, was)) → enumerate_steps (zips fronts fronts) t r u →
-      d ≡ tell c (k, (row.now, was.now)) → fold tell d (drop (length (xs ++ (k, (row, was)) ∷ [])) each) ≡ fold tell c (drop (length xs) each)
-  told_turn k row was c d e h is =
-      let n = YieldsList-turn road xs t y r u (k, (row, was)) e h in
-      (λ i. fold tell (is i) (drop (length_push xs (k, (row, was)) i) each))
-      ∙ ap (λ p. fold tell (tell c p) (drop (length xs + 1) each)) n.1
-      ∙ sym (at_drop_more (fold tell c) each (length xs) (k, (row.now, was.now)) n.0)
-
-  pub told_end : (c : C) → r ≡ None → enumerate_steps (zips fronts fronts) t r u → fold tell c (drop (length xs) each) ≡ c
-  told_end c e h = let n = (YieldsList-end road xs t y r u e h).1 in at_drop_all (fold tell c) each (length xs) (omega arith)
+    pub told_all : (first c : C) (stay : List (Option Entry)) → r ≡ None → enumerate_steps (zips fronts fronts) t r u →
+        fold tells c (drop (length xs) each) ≡ fold tells first each → o.entries ≡ stay → c ≡ told (meant g) l stay 0 before (table_of rows) first
+    told_all first c stay e h so_far is =
+        let n = (YieldsList-end road xs t y r u e h).1 in
+        sym (at_drop_all (fold tells c) each (length xs) (omega arith)) ∙ so_far ∙ told_each 0 rows before first
+        ∙ ap (λ z. told (meant g) l z 0 before (table_of rows) first) is

@@ -1,7 +1,9 @@
--- What a call remembers of the table that it found, and what it makes of the cell.
-use Rattle.std.specs.Prelude.{ℕ}
+-- What a call remembers of the table that it found, and what it may offer of the table that it leaves.
+use Rattle.std.specs.Prelude.{◌≡◌, ℕ, Bool, true, List, length}
+use Rattle.chooser.specs.Offers.{sound}
 use Rattle.model.specs.Cell.{Cell, mark_from, joins, settled}
-use Rattle.model.specs.Lists.{Line, Credit, Extra, in_list}
+use Rattle.model.specs.Limits.{places}
+use Rattle.model.specs.Lists.{Line, Credit, Extra, in_list, stayed}
 use Rattle.model.specs.Meaning.{Meaning}
 use Rattle.model.specs.Session.{Session}
 use Rattle.model.specs.Table.{Table, change, least, greatest, none_active}
@@ -20,6 +22,10 @@ joins_left M before u c = joins M Extra before.extra u (joins M Credit before.cr
 -- what it is once it has heard of the joins of one list, where the call leaves session s at a place of table t and changes no other
 abbrev pub joins_by : {C : Type 0} → Meaning C → Line → Table → ℕ → Session → C → C
 joins_by M l t place s c = joins M l (in_list l t) (change t place (λ _. s)) c
+
+-- whoever stayed in a list can be offered
+abbrev pub Offerable : Table → Type 0
+Offerable t = (l : Line) (before : List Bool) → length before ≡ places → sound (stayed l before t) ≡ true
 
 abbrev pub with_chooser : {C : Type 0} → Cell C → C → Cell C
 with_chooser x c = record { keep = x.keep; mark = x.mark; turns = x.turns; table = x.table; chooser = c }

@@ -1,5 +1,4 @@
 pub mod Found
-pub mod Offerable
 pub mod View
 pub mod Plans
 pub mod Answers

@@ -11,7 +11,7 @@ ghost use Rattle.cell.specs.Picks.{picked_from};
 ghost use Rattle.cell.specs.Ways.{way_as, only};
 
 use super::roll::Roll;
-use super::rows::row_at;
+use super::row::row_at;
 use super::way::Way;
 use chooser::{Chooser, Line, Place};
 use session::Row;

@@ -12,7 +12,7 @@ mod placed;
 mod plans;
 mod put;
 mod roll;
-mod rows;
+mod row;
 mod send;
 mod settle;
 mod standing;

@@ -10,7 +10,7 @@ ghost use Rattle.cell.specs.Plans.{sessions, plan, opened};
 ghost use Rattle.cell.specs.View.{view};
 
 use super::placed::Placed;
-use super::rows::row_at;
+use super::row::row_at;
 use super::state::Cell;
 use answer::Refusal;
 use chooser::Place;

@@ -9,7 +9,7 @@ ghost use Rattle.table.specs.Places.{table_of};
 
 use super::placed::Placed;
 use super::roll::Roll;
-use super::rows::{row_at, set_row};
+use super::row::{row_at, set_row};
 use super::state::Cell;
 use chooser::{Chooser, Line};
 use table::{mark_after, nobody_active};

@@ -9,7 +9,7 @@ ghost use Rattle.cell.specs.Room.{HasRoom};
 ghost use Rattle.cell.specs.Ways.{way_as, handed_to, turn_with};
 
 use super::party::Party;
-use super::rows::{row_at, set_row};
+use super::row::{row_at, set_row};
 use super::way::Way;
 use account::Account;
 use answer::{Kind, Sent, Turn};

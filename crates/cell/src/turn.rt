@@ -15,7 +15,7 @@ ghost use Rattle.cell.specs.Ways.{way_as, only};
 use super::before::look;
 use super::leave::leave;
 use super::roll::Roll;
-use super::rows::row_at;
+use super::row::row_at;
 use super::send::carry_out;
 use super::state::Cell;
 use super::way::Way;

@@ -26,7 +26,7 @@ key_active t j a = key_read t j ∙ cond-true (at t j).active (Some (time (at t 
 
 key_some : (b : Bool) (v : ℕ) (key : VirtualTime) → cond b (Some (time v)) None ≡ Some key → (b ≡ true) × (key.0 ≡ v)
 key_some true v key e = (refl, let s : key ≡ time v = cc in ap (λ (k : VirtualTime). k.0) s)
-key_some false v key e = let z : ◌≡◌ {A = ℕ} 0 1 = cc in absurd (omega arith)
+key_some false v key e = absurd (cc)
 
 active_inside : (t : Table) (j : ℕ) → (at t j).active ≡ true → j < length t
 active_inside t j a = by (cases_lt j (length t))
@@ -53,7 +53,7 @@ none_chosen t None e h = refl
 none_chosen t (Some c) e h =
     let some = key_active t c (chosen_next t c e).active in
     let none = h c in
-    let z : ◌≡◌ {A = ℕ} 0 1 = cc in absurd (omega arith)
+    absurd (cc)
 
 pub search_is : (t : Table) (r : Option ℕ) → Least time_before (map time_key t) r → r ≡ chosen t
 search_is t None h = none_chosen t (chosen t) refl h

@@ -1,13 +1,21 @@
 -- Lists made from a table place by place.
-use Rattle.std.proofs.Common.{◌≡◌, ℕ, zero, suc, ◌<◌, Bool, true, ◌&&◌, List, [], ◌∷◌, Option, length, get_or, replicate, refl, ap, ◌∙◌, arith}
+use Rattle.std.proofs.Common.{◌≡◌, ℕ, zero, suc, ◌<◌, Bool, true, ◌&&◌, List, [], ◌∷◌, map, Option, length, get_or, replicate, refl, sym, ap, ◌∙◌, arith}
+use Rattle.std.proofs.lemmas.List.{same_lists, length-map, get_or-map}
 use Rattle.chooser.specs.declared.entry.Entry.{Entry}
 use Rattle.chooser.specs.declared.entry.Line.{Line}
+use Rattle.model.proofs.Tables.{at_is}
 use Rattle.model.specs.Lists.{in_line, entry, offer, stayed}
-use Rattle.model.specs.Session.{Session}
-use Rattle.model.specs.Table.{Table}
+use Rattle.model.specs.Session.{Session, vacant}
+use Rattle.model.specs.Table.{Table, at}
 use Rattle.session.specs.declared.row.Row.{Row}
 use Rattle.table.specs.Places.{table_of}
 use Rattle.table.proofs.Tables.{length_table}
+
+-- a list that has of each session what h says
+pub listed : {B : Type 0} (h : Session → B) (t : Table) (ys : List B) (n : ℕ) → length ys ≡ n → length t ≡ n → ((k : ℕ) (d : B) → k < n → get_or ys k d ≡ h (at t k)) → ys ≡ map h t
+listed h t ys n long size each =
+    same_lists ys (map h t) (long ∙ sym size ∙ sym (length-map t h))
+    (λ k d l. each k d (omega arith) ∙ ap h (at_is t k) ∙ sym (get_or-map h t k vacant d (omega arith)))
 
 pub length_stayed : (l : Line) (bs : List Bool) (t : Table) → length bs ≡ length t → length (stayed l bs t) ≡ length bs
 unfolding stayed

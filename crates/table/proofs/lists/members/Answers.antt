@@ -1,6 +1,8 @@
 use Rattle.std.proofs.Common.{◌∙◌, rules}
+use Rattle.chooser.proofs.Made.{made_at}
 use Rattle.model.specs.Lists.{in_line}
-use Rattle.table.proofs.Made.{made_is}
+use Rattle.model.specs.Table.{at}
+use Rattle.table.proofs.Offering.{listed}
 use Rattle.table.proofs.Tables.{length_table}
 use Rattle.table.specs.Places.{table_of}
 use Rattle.table.proofs.lists.members.Goals as goal
@@ -8,5 +10,8 @@ use Rattle.table.proofs.lists.members.Goals as goal
 pub returns : goal.returns
 returns c =
     let rows = c.args.rows.now in
-    made_is _ _ _ (in_line c.args.line) (table_of rows) 64 c.from_fn.ensures.items (length_table rows ∙ c.told-rows)
-    (λ k l y q call. search rules)
+    let t = table_of rows in
+    let in_it = in_line c.args.line in
+    let made = c.from_fn.ensures.items in
+    listed in_it t c.from_fn.result 64 made.long (length_table rows ∙ c.told-rows)
+    (made_at _ _ c.from_fn.result (λ k. in_it (at t k)) 64 (λ k l y q call. search rules) made)

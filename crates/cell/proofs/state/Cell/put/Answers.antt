@@ -6,12 +6,12 @@ use Rattle.model.specs.Sound.{InOrder}
 use Rattle.session.specs.Seen.{seen}
 use Rattle.cell.specs.View.{view}
 use Rattle.cell.proofs.Joining.{put_told}
-use Rattle.cell.proofs.Offering.{offerable}
-use Rattle.cell.proofs.Sized.{rows_sized}
+use Rattle.model.proofs.Uses.{stayed_sound}
+use Rattle.cell.proofs.Rows.{rows_sized}
 use Rattle.cell.proofs.state.Cell.put.Goals as goal
 
 pub invariant_of-roll : goal.invariant_of-roll
-invariant_of-roll g c = let x = c.args.self.now in record { sized = rows_sized x.rows x.ordered; fair = offerable (books x.ordered) }
+invariant_of-roll g c = let x = c.args.self.now in record { sized = rows_sized x.rows x.ordered; fair = stayed_sound (books x.ordered) }
 
 pub invariant_of-self : goal.invariant_of-self
 invariant_of-self g c =

@@ -3,7 +3,7 @@ use Rattle.std.proofs.lemmas.Bool.{le-leb, cond-true}
 use Rattle.model.proofs.Books.{new_sound}
 use Rattle.model.specs.Sound.{InOrder}
 use Rattle.model.specs.Table.{Table}
-use Rattle.cell.proofs.Sized.{table_vacant}
+use Rattle.cell.proofs.Rows.{table_vacant}
 use Rattle.cell.proofs.state.Cell.vacant.Goals as goal
 
 pub invariant_of-result : goal.invariant_of-result
