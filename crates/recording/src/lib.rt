@@ -16,7 +16,7 @@ pub const RECORDS: u64 = 1_000_000;
 
 pub const BYTES: u64 = 16 * RECORDS;
 
-// Reads until the sixteen bytes are full or the input ends, and says how many there are.
+// Reads until the sixteen bytes are full or the input ends, and says how many there are, as `read_exact` would not.
 #[tactic(auto, using(crate::proofs::Taken::taken_more))]
 pub fn fill<R: Read>(reader: &mut R, bytes: &mut [u8; 16]) -> io::Result<usize>
     ensures size { IfOk result (λ n. n ≤ 16) }

@@ -57,10 +57,7 @@ impl<R> Records<R> {
     }
 }
 
-impl<R: Read> Iterator for Records<R>
-where
-    R: Drop,
-{
+impl<R: Read + Drop> Iterator for Records<R> {
     type Item = io::Result<Record>;
 
     // The numbers go on by one, and a record has the next bytes of the input.
