@@ -11,6 +11,7 @@ pub const OPEN: [u8; 16] = [
 pub const CLOSE: [u8; 16] = [
     b'C', 255, 0, 0, 0, 0, 0, 0, b'c', b'l', b'o', b's', b'e', b'd', b'.', b'.',
 ];
+
 // a frame of 1536 bytes, tag 4294967295, at place 5
 pub const ARRIVE: [u8; 16] = [
     b'A', 5, 0x00, 0x06, 0xff, 0xff, 0xff, 0xff, b'c', b'a', b'p', b't', b'i', b'o', b'n', b' ',

@@ -1,32 +1,10 @@
 // Playing a run, and comparing its turns and its accounts.
 use super::tables::{Account, Given, Outcome, Step};
-use answer::{Kind, Refusal, Sent, Turn};
 use cell::Cell;
 use chooser::Chooser;
 use queue::Frame;
 use std::process::Abort;
 use std::test::Fail;
-
-impl Given {
-    // The answer of a cell that says it.
-    fn answer(self) -> Result<Turn, Refusal> {
-        match self {
-            Given::Sent(chosen, sender, tag, length, kind) => Ok(Turn {
-                chosen,
-                sent: Some(Sent { sender, tag }),
-                length,
-                kind,
-            }),
-            Given::Nobody(chosen, length) => Ok(Turn {
-                chosen,
-                sent: None,
-                length,
-                kind: Kind::Idle,
-            }),
-            Given::Refused(why) => Err(why),
-        }
-    }
-}
 
 pub(crate) fn play<C: Chooser>(
     rt: &impl Abort,

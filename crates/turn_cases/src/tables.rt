@@ -2,6 +2,7 @@
 use Given::{Nobody, Refused, Sent};
 use answer::Kind::{self, Credit, Extra, Kept, Normal};
 use answer::Refusal::{self, NoneActive};
+use answer::Turn;
 
 // One call.
 #[derive(Clone, Copy)]
@@ -24,6 +25,27 @@ pub(crate) enum Given {
     // chosen place, length
     Nobody(u8, u16),
     Refused(Refusal),
+}
+
+impl Given {
+    // The answer of a cell that says it.
+    pub(crate) fn answer(self) -> Result<Turn, Refusal> {
+        match self {
+            Given::Sent(chosen, sender, tag, length, kind) => Ok(Turn {
+                chosen,
+                sent: Some(answer::Sent { sender, tag }),
+                length,
+                kind,
+            }),
+            Given::Nobody(chosen, length) => Ok(Turn {
+                chosen,
+                sent: None,
+                length,
+                kind: Kind::Idle,
+            }),
+            Given::Refused(why) => Err(why),
+        }
+    }
 }
 
 // Place, virtual time, lag, allowance and how many frames wait: a row of a table, named once and not in each of 60 rows.
