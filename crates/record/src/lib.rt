@@ -5,6 +5,7 @@ mod event;
 mod layout;
 mod letter;
 mod lines;
+mod parts;
 mod reader;
 mod text;
 mod writer;

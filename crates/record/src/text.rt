@@ -35,7 +35,7 @@ impl Text {
         ensures short { length (line_text number (contents event.entry) res) < 64 }
     {
         let mut text = Text::new();
-        text.push_head(number, event.letter().byte(), res);
+        text.push_head(number, u8::from(event.letter()), res);
         text.push_note(event.note());
         text
     }
