@@ -1,4 +1,3 @@
-pub mod Offering
 pub mod Rows
 pub mod Steps
 pub mod Telling

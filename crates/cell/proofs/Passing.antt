@@ -10,41 +10,26 @@ use Rattle.model.specs.Cell.{Cell, mark_after, all_joins, settled}
 use Rattle.model.specs.Departures.{departures}
 use Rattle.model.specs.Limits.{most_turns}
 use Rattle.model.specs.Meaning.{Meaning, Lawful}
-use Rattle.model.specs.Sound.{Midway, Sound, InOrder}
+use Rattle.model.specs.Sound.{Midway, Sound}
 use Rattle.model.specs.Table.{Table, at, change, is_none, none_active, chosen}
 use Rattle.model.specs.Turn.{Way, by_right, by_allowance, by_credit, unclaimed, by_extra, idle, sender, length_of, answer_of, hands_on, takes_up, turned}
 use Rattle.model.proofs.Books.{ordered_of, step_sound}
-use Rattle.model.proofs.Chosen.{chosen_next, chosen_some}
+use Rattle.model.proofs.Chosen.{chosen_some}
 use Rattle.model.proofs.Tables.{change_same}
 use Rattle.model.proofs.Senders.{Rightly, decides}
 use Rattle.model.proofs.Turn.{apart_credit, apart_extra}
-use Rattle.model.proofs.Uses.{lag_low, turn_sender, turn_midway}
+use Rattle.model.proofs.Uses.{lag_low, stayed_sound, turn_midway}
 use Rattle.table.proofs.Dues.{idle_is}
 use Rattle.cell.specs.Found.{Offerable}
 use Rattle.cell.specs.Plans.{unless}
 use Rattle.cell.specs.Room.{HasRoom}
 use Rattle.cell.specs.Turns.{Accepted}
 use Rattle.cell.specs.Ways.{handed_to, only}
-use Rattle.cell.proofs.Offering.{offerable}
-use Rattle.cell.proofs.Steps.{planned}
+use Rattle.cell.proofs.Steps.{Makes, makes_of, planned}
 
 -- ---- ways
 
--- whatever holds of each who may be found holds of the one who is
-of_found : {P : ℕ → Type 0} (o : Option ℕ) → ((q : ℕ) → o ≡ Some q → P q) → IfSome o P
-of_found None h = tt
-of_found (Some q) h = h q refl
-
--- who is handed a turn sends in it
-handed_sends : (P : ℕ → Type 0) (c : ℕ) (w : Way) → IfSome (sender c w) P → IfSome (handed_to w) P
-handed_sends P c by_right h = tt
-handed_sends P c by_allowance h = tt
-handed_sends P c (by_credit q) h = h
-handed_sends P c unclaimed h = tt
-handed_sends P c (by_extra q) h = h
-handed_sends P c idle h = tt
-
--- and is another than the chosen
+-- whoever is handed a turn is another than the chosen
 other : (t : Table) (c : ℕ) (w : Way) → Rightly t (at t c) w → IfSome (handed_to w) (λ q. c ≡ q → ⊥)
 other t c by_right r = tt
 other t c by_allowance r = tt
@@ -91,21 +76,20 @@ module _ {C : Type 0} (x : Cell C) (c : ℕ) (e : Ok c ≡ unless (refusal x tur
 abbrev pub turn_accepted : {C : Type 0} (x : Cell C) (c : ℕ) → Ok c ≡ unless (refusal x turn) (found (chosen x.table)) → Sound x → Accepted x.keep x.mark x.table c
 turn_accepted x c e b = record { turns = x.turns; left = turn_left x c e; books = b; next = turn_next x c e }
 
-module _ {C : Type 0} (M : Meaning C) (law : Lawful M) (keep mark : ℕ) (t : Table) (ch : C) (c : ℕ) (a : Accepted keep mark t c) where
-  abbrev cell : Cell C
-  cell = record { keep = keep; mark = mark; turns = a.turns; table = t; chooser = ch }
-
-  pub chosen_inside : c < 64
-  chosen_inside = omega (arith, (chosen_next t c a.next).inside, a.books.size)
-
+-- so its sessions can be offered, and have room for it
+module _ {keep mark : ℕ} {t : Table} {c : ℕ} (a : Accepted keep mark t c) where
   pub can_offer : Offerable t
-  can_offer = offerable a.books
+  can_offer = stayed_sound a.books
 
   pub has_room : (j : ℕ) → HasRoom (at t j)
   has_room j =
       let o = a.books.rows j in
       let left = a.left in
       record { time = omega (arith, o.early); allowance = omega (arith, o.modest); lag = omega (arith, lag_low a.books j) }
+
+module _ {C : Type 0} (M : Meaning C) (law : Lawful M) (keep mark : ℕ) (t : Table) (ch : C) (c : ℕ) (a : Accepted keep mark t c) where
+  abbrev cell : Cell C
+  cell = record { keep = keep; mark = mark; turns = a.turns; table = t; chooser = ch }
 
   -- a turn that is not refused
   goes : refusal cell turn ≡ None
@@ -114,40 +98,28 @@ module _ {C : Type 0} (M : Meaning C) (law : Lawful M) (keep mark : ℕ) (t : Ta
       ap (λ (b : Bool). cond b (Some NoneActive) (cond (leb most_turns a.turns) (Some TurnsUsedUp) None)) some
       ∙ ap (λ (b : Bool). cond b (Some TurnsUsedUp) None) (lt-leb most_turns a.turns a.left)
 
-  pub turn_is : step M cell turn ≡ turn_of M cell c
+  turn_is : step M cell turn ≡ turn_of M cell c
   unfolding step accepted
   turn_is = ap (outcome M cell turn) goes ∙ ap (λ (o : Option ℕ). turn_of M cell (found o)) a.next
 
   -- what it answers and leaves
-  pub answer_is : (r : Turn) → r ≡ answer_of t c (decide M (only ch t) c) → Ok (Turned r) ≡ (step M cell turn).answer
-  answer_is r e = ap (λ (r : Turn). Ok (Turned r)) e ∙ sym (ap (λ (o : Outcome M). o.answer) turn_is)
-
-  pub cell_is : (r : Turn) (u : Table) (m : ℕ) (d : C) → r ≡ answer_of t c (decide M (only ch t) c) →
+  pub turn_makes : (r : Turn) (u : Table) (m : ℕ) (d : C) → r ≡ answer_of t c (decide M (only ch t) c) →
       u ≡ departures (turned keep t c r.length (decide M (only ch t) c)) → m ≡ mark_after mark t u →
       d ≡ all_joins M t u (heard M (only ch t) (decide M (only ch t) c) r.length) →
-      ◌≡◌ {A = Cell C} (record { keep = keep; mark = m; turns = a.turns + 1; table = u; chooser = d }) (step M cell turn).cell
+      Makes M cell turn (Ok (Turned r)) (record { keep = keep; mark = m; turns = a.turns + 1; table = u; chooser = d })
   unfolding turn_after settled
-  cell_is r u m d answered e p q =
-      (λ i. record { keep = keep; mark = p i; turns = a.turns + 1; table = u; chooser = q i })
-      ∙ ap (λ (v : Table). settled M cell v (a.turns + 1) (heard M (only ch t) (decide M (only ch t) c) r.length)) e
-      ∙ ap (λ (r : Turn). turn_after M cell c (decide M cell c) r.length) answered
-      ∙ sym (ap (λ (o : Outcome M). o.cell) turn_is)
-
-  pub in_order : (r : Turn) (u : Table) (m : ℕ) (d : C) → r ≡ answer_of t c (decide M (only ch t) c) →
-      u ≡ departures (turned keep t c r.length (decide M (only ch t) c)) → m ≡ mark_after mark t u →
-      d ≡ all_joins M t u (heard M (only ch t) (decide M (only ch t) c) r.length) →
-      InOrder keep m (a.turns + 1) u
-  in_order r u m d answered e p q =
-      subst (λ (y : Cell C). InOrder y.keep y.mark y.turns y.table) (sym (cell_is r u m d answered e p q)) ∣ step_sound M law cell turn a.books ∣₁
+  turn_makes r u m d answered e p q =
+      let makes = makes_of M cell turn _ turn_is in
+      record {
+        answer = ap (λ (r : Turn). Ok (Turned r)) answered ∙ makes.answer;
+        cell =
+            (λ i. record { keep = keep; mark = p i; turns = a.turns + 1; table = u; chooser = q i })
+            ∙ ap (λ (v : Table). settled M cell v (a.turns + 1) (heard M (only ch t) (decide M (only ch t) c) r.length)) e
+            ∙ ap (λ (r : Turn). turn_after M cell c (decide M cell c) r.length) answered ∙ makes.cell;
+      }
 
   -- the way that the turn goes, and the table that it leaves before departures
   module _ (w : Way) (is : w ≡ decide M (only ch t) c) where
-    pub sender_inside : IfSome (sender c w) (λ q. q < 64)
-    sender_inside = of_found (sender c w) (λ q e. turn_sender M law cell a.books c a.next q (ap (sender c) (sym is) ∙ e))
-
-    pub handed_inside : IfSome (handed_to w) (λ q. q < 64)
-    handed_inside = handed_sends (λ q. q < 64) c w sender_inside
-
     pub handed_other : IfSome (handed_to w) (λ q. c ≡ q → ⊥)
     handed_other =
         other t c w (subst (Rightly t (at t c)) (sym is) (decides M law cell c (ordered_of cell a.books)))
@@ -163,4 +135,4 @@ module _ {C : Type 0} (M : Meaning C) (law : Lawful M) (keep mark : ℕ) (t : Ta
       unfolding turn_after settled
       can_offer_after u v e d =
           let is_left = ap (λ (o : Outcome M). o.cell.table) turn_is in
-          subst Offerable (is_left ∙ sym (d ∙ ap departures (e ∙ left))) (offerable (step_sound M law cell turn a.books))
+          subst Offerable (is_left ∙ sym (d ∙ ap departures (e ∙ left))) (stayed_sound (step_sound M law cell turn a.books))

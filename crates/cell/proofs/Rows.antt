@@ -1,23 +1,17 @@
 -- What a cell's books say of its rows.
-use Rattle.std.proofs.Common.{◌≡◌, ℕ, zero, suc, ◌<◌, List, ◌∷◌, length, set, replicate, sym, refl, ap, ◌∙◌, arith}
+use Rattle.std.proofs.Common.{◌≡◌, ℕ, zero, suc, List, ◌∷◌, length, replicate, sym, refl, ap, ◌∙◌}
 use Rattle.model.proofs.Order.{books}
 use Rattle.model.specs.Limits.{places}
 use Rattle.model.specs.Session.{Session, vacant}
 use Rattle.model.specs.Sound.{InOrder}
-use Rattle.model.specs.Table.{Table, change, vacancies}
+use Rattle.model.specs.Table.{Table, vacancies}
 use Rattle.session.specs.Seen.{seen}
 use Rattle.session.specs.declared.row.Row.{Row}
-use Rattle.table.proofs.Tables.{length_table, written}
+use Rattle.table.proofs.Tables.{length_table}
 use Rattle.table.specs.Places.{table_of}
 
 pub rows_sized : {keep mark turns : ℕ} (rows : List Row) → InOrder keep mark turns (table_of rows) → length rows ≡ places
 rows_sized rows o = sym (length_table rows) ∙ (books o).size
-
--- a row put at a place
-pub put_row : (rows : List Row) (i place : ℕ) (row : Row) → i ≡ place → length rows ≡ 64 → place < 64 →
-    table_of (set rows i row) ≡ change (table_of rows) place (λ s. seen row)
-put_row rows i place row e n l =
-    ap (λ (k : ℕ). table_of (set rows k row)) e ∙ written rows place row row (λ s. seen row) (omega arith) refl
 
 -- rows of a new cell
 pub table_vacant : (n : ℕ) (row : Row) → seen row ≡ vacant → table_of (replicate n row) ≡ vacancies n

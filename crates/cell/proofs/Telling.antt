@@ -1,17 +1,27 @@
 -- Tellings: what a chooser of the code makes of an offer, and one place more of those who joined a list.
-use Rattle.std.proofs.Common.{◌≡◌, ℕ, ◌+◌, ◌<◌, ◌≤◌, Bool, true, false, cond, not, ◌&&◌, List, ◌∷◌, length, get_or, drop, sym, refl, ap, ◌∙◌, add-one, arith}
+use Rattle.std.proofs.Common.{◌≡◌, ℕ, ◌+◌, Bool, true, false, cond, not, ◌&&◌, List, [], ◌∷◌, ◌++◌, length, drop, fold, Some, None, Option, sym, refl, ap, ◌∙◌, add-one, arith}
 use mathlib.Core.Bool.{Bool-set}
-use Rattle.std.proofs.lemmas.List.{drop_more, drop_all}
-use Rattle.std.proofs.lemmas.Bool.{both_ways}
+use Rattle.std.specs.List.{zip, enumerate_from}
+use Rattle.std.proofs.lemmas.Bool.{and_from, both_ways, cond-true, cond-false}
+use Rattle.std.proofs.iter.Yields.{fronts}
+use Rattle.std.proofs.lemmas.Iterator.{YieldsList, YieldsList-from_slice, YieldsList-from_zip, zips}
+use Rattle.std.proofs.lemmas.Iterator.Consumers.{YieldsList-from_enumerate, YieldsList-turn, YieldsList-end}
+use Rattle.std.proofs.lemmas.List.{length_push, at_drop_more, at_drop_all}
+use Rattle.std.specs.Borrow.{Bor}
+use Rattle.std.specs.Iterator.{Yields}
+use Rattle.std.specs.Iterator.Adapters.{enumerate_steps}
+use Rattle.std.specs.Slice.Iter.{iter_rest}
+use Rattle.std.specs.declared.iter.Enumerate.{Enumerate}
+use Rattle.std.specs.declared.iter.Zip.{Zip}
+use Rattle.std.specs.declared.slice.Iter.{Iter}
 use Rattle.chooser.specs.Offers.{sound}
 use Rattle.chooser.specs.declared.offer.Offer.{Offer}
+use Rattle.chooser.specs.declared.Chooser.{Ghosts}
 use Rattle.model.specs.Cell.{told}
 use Rattle.model.specs.Lists.{Entry, Line, in_line}
-use Rattle.model.specs.Meaning.{Meaning, if_sound}
-use Rattle.model.specs.Session.{Session}
+use Rattle.model.specs.Meaning.{if_sound, meant}
 use Rattle.session.specs.Seen.{seen}
 use Rattle.session.specs.declared.row.Row.{Row}
-use Rattle.table.proofs.Tables.{length_table, getD_table}
 use Rattle.table.specs.Places.{table_of}
 
 -- of an offer of the code, its entries mean the offer itself
@@ -22,24 +32,63 @@ if_sound_is x f o = by (sound o.entries) refl
     by true e = ap f (λ i. record { entries = o.entries; ok = Bool-set _ _ e o.ok i })
     by false e = absurd (both_ways (sound o.entries) e o.ok)
 
-module _ {C : Type 0} (M : Meaning C) (l : Line) (stay : List Entry) (before : List Bool) (rows : List Row) (i : ℕ) (c : C) where
-  abbrev pub Left : ℕ → C → C
-  Left k d = told M l stay k (drop k before) (drop k (table_of rows)) d
+-- what a chooser of the code is asked and told of an offer with known entries, as what it means
+module _ {C : Type 0} (g : Ghosts C) (c : C) (l : Line) (o : Offer) (es : List (Option Entry)) (e : o.entries ≡ es) where
+  pub asked_is : g.pick c l o ≡ (meant g).pick c l es
+  asked_is = sym (if_sound_is None (g.pick c l) o) ∙ ap ((meant g).pick c l) e
 
-  pub told_more : (d : Row) → i < length before → i < length rows →
-      Left i c ≡ Left (i + 1) (cond (not (get_or before i false) && in_line l (seen (get_or rows i d))) (M.joined c l i stay) c)
-  unfolding told
-  told_more d a b =
-      let next = cond (not (get_or before i false) && in_line l (seen (get_or rows i d))) (M.joined c l i stay) c in
-      let was = drop_more before i false a in
-      let is = drop_more (table_of rows) i (seen d) (omega (arith, length_table rows)) in
-      let here = getD_table rows i d (seen d) b in
-      let more = λ (s : Session). told M l stay i (get_or before i false ∷ drop (i + 1) before) (s ∷ drop (i + 1) (table_of rows)) c in
-      ap (λ bs. told M l stay i bs (drop i (table_of rows)) c) was
-      ∙ ap (λ t. told M l stay i (get_or before i false ∷ drop (i + 1) before) t c) is
-      ∙ ap more here
-      ∙ ap (λ k. told M l stay k (drop (i + 1) before) (drop (i + 1) (table_of rows)) next) (sym (add-one i))
+  pub joined_is : (k : ℕ) → g.after_joined c l k o ≡ (meant g).joined c l k es
+  joined_is k = sym (if_sound_is c (g.after_joined c l k) o) ∙ ap ((meant g).joined c l k) e
 
-  pub told_all : length before ≤ i → Left i c ≡ c
-  unfolding told
-  told_all a = ap (λ bs. told M l stay i bs (drop i (table_of rows)) c) (drop_all i before a)
+-- who joined is told place by place, with the offer of those who stayed
+module _ {C : Type 0} (g : Ghosts C) (l : Line) (o : Offer) where
+  abbrev pub tells : C → ℕ × (Row × Bool) → C
+  tells c p = cond (not p.1.1 && in_line l (seen p.1.0)) ((meant g).joined c l p.0 o.entries) c
+
+  told_each : (k : ℕ) (rows : List Row) (before : List Bool) (c : C) →
+      fold tells c (enumerate_from k (zip rows before)) ≡ told (meant g) l o.entries k before (table_of rows) c
+  unfolding told table_of
+  told_each k [] [] c = refl
+  told_each k [] (b ∷ bs) c = refl
+  told_each k (r ∷ rs) [] c = refl
+  told_each k (r ∷ rs) (b ∷ bs) c =
+      let next = tells c (k, (r, b)) in
+      told_each (k + 1) rs bs next ∙ ap (λ n. told (meant g) l o.entries n bs (table_of rs) next) (add-one k)
+
+  -- it joined, or it did not
+  module _ (k : ℕ) (r : Row) (was : Bool) (c : C) where
+    pub tells_joiner : (d : C) → d ≡ g.after_joined c l k o → was ≡ false → in_line l (seen r) ≡ true → d ≡ tells c (k, (r, was))
+    tells_joiner d h new is = h ∙ joined_is g c l o o.entries refl k ∙ sym (cond-true _ _ _ (and_from _ _ (ap not new) is))
+
+    pub tells_member : was ≡ true → c ≡ tells c (k, (r, was))
+    tells_member old = ap (λ (b : Bool). cond (not b && in_line l (seen r)) ((meant g).joined c l k o.entries) c) (sym old)
+
+    pub tells_outsider : was ≡ false → in_line l (seen r) ≡ false → c ≡ tells c (k, (r, was))
+    tells_outsider new out = sym (cond-false _ _ _ (ap (λ (b : Bool). not b && in_line l (seen r)) new ∙ out))
+
+  -- the loop that does so over all places, one place more and at its end
+  module _ (rows : List Row) (before : List Bool)
+      (s : Enumerate (Zip (Iter Row) (Iter Bool))) (a : iter_rest s.iter.a ≡ rows) (b : iter_rest s.iter.b ≡ before) (z : s.count ≡ 0)
+      (xs : List (ℕ × (Bor Row × Bor Bool))) (t : Enumerate (Zip (Iter Row) (Iter Bool))) (y : Yields (enumerate_steps (zips fronts fronts)) s xs t)
+      (r : Option (ℕ × (Bor Row × Bor Bool))) (u : Enumerate (Zip (Iter Row) (Iter Bool))) where
+    abbrev each : List (ℕ × (Row × Bool))
+    each = enumerate_from 0 (zip rows before)
+
+    road : YieldsList (enumerate_steps (zips fronts fronts)) (λ p. (p.0, (p.1.0.now, p.1.1.now))) s each
+    road = YieldsList-from_enumerate (YieldsList-from_zip (YieldsList-from_slice rows a) (YieldsList-from_slice before b)) z
+
+    pub told_turn : (k : ℕ) (row : Bor Row) (was : Bor Bool) (first c d : C) → r ≡ Some (k, (row, was)) → enumerate_steps (zips fronts fronts) t r u →
+        d ≡ tells c (k, (row.now, was.now)) → fold tells c (drop (length xs) each) ≡ fold tells first each →
+        fold tells d (drop (length (xs ++ (k, (row, was)) ∷ [])) each) ≡ fold tells first each
+    told_turn k row was first c d e h is so_far =
+        let n = YieldsList-turn road xs t y r u (k, (row, was)) e h in
+        (λ i. fold tells (is i) (drop (length_push xs (k, (row, was)) i) each))
+        ∙ ap (λ p. fold tells (tells c p) (drop (length xs + 1) each)) n.1
+        ∙ sym (at_drop_more (fold tells c) each (length xs) (k, (row.now, was.now)) n.0) ∙ so_far
+
+    pub told_all : (first c : C) (stay : List (Option Entry)) → r ≡ None → enumerate_steps (zips fronts fronts) t r u →
+        fold tells c (drop (length xs) each) ≡ fold tells first each → o.entries ≡ stay → c ≡ told (meant g) l stay 0 before (table_of rows) first
+    told_all first c stay e h so_far is =
+        let n = (YieldsList-end road xs t y r u e h).1 in
+        sym (at_drop_all (fold tells c) each (length xs) (omega arith)) ∙ so_far ∙ told_each 0 rows before first
+        ∙ ap (λ z. told (meant g) l z 0 before (table_of rows) first) is

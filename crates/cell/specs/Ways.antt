@@ -5,16 +5,16 @@ use Rattle.answer.specs.declared.turn.Turn.{Turn}
 use Rattle.model.specs.Cell.{Cell}
 use Rattle.model.specs.Session.{Frame}
 use Rattle.model.specs.Table.{Table}
-use Rattle.model.specs.Turn.{Way as TheWay, by_right, by_allowance, by_credit, unclaimed, by_extra, idle, sent_of, length_of}
+use Rattle.model.specs.Turn.{Way as TheWay, by_right, by_allowance, by_credit, unclaimed, by_extra, idle}
 use Rattle.cell.specs.declared.way.Way.{Way}
 use Rattle.cell.specs.declared.way.Way.TheVariants.{ByRight, ByAllowance, ByCredit, Unclaimed, ByExtra, Idle}
 
 abbrev pub way_as : Way → TheWay
 way_as ByRight = by_right
 way_as ByAllowance = by_allowance
-way_as (ByCredit q) = by_credit q
+way_as (ByCredit q) = by_credit q.number
 way_as Unclaimed = unclaimed
-way_as (ByExtra q) = by_extra q
+way_as (ByExtra q) = by_extra q.number
 way_as Idle = idle
 
 -- the place that a turn is handed on to
@@ -33,7 +33,3 @@ only c t = record { keep = 0; mark = 0; turns = 0; table = t; chooser = c }
 -- what is answered of the turn of place c in which the one at q sends a frame
 abbrev pub turn_with : ℕ → ℕ → Frame → Kind → Turn
 turn_with c q f k = record { chosen = c; sent = Some (record { sender = q; tag = f.tag }); length = f.length; kind = k }
-
--- the same where it is the first of its queue, or where nobody sends
-abbrev pub turn_from : Table → ℕ → Option ℕ → Kind → Turn
-turn_from t c q k = record { chosen = c; sent = sent_of t q; length = length_of t q; kind = k }

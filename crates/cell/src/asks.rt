@@ -5,6 +5,7 @@ ghost use Rattle.model.specs.Table.{booked_total};
 ghost use Rattle.cell.specs.Asked.{standings, frames};
 ghost use Rattle.cell.specs.View.{view};
 
+use super::placed::Placed;
 use super::standing::Standing;
 use super::state::Cell;
 use answer::Refusal;
@@ -16,24 +17,15 @@ impl<C> Cell<C> {
     pub fn session(&self, place: u8) -> Result<Standing, Refusal>
         ensures { result ≡ standings (asked (view self.now) place) }
     {
-        let row = self.opened(place)?;
-        Ok(Standing {
-            rate: row.rate,
-            price: row.price,
-            virtual_time: row.virtual_time,
-            lag: row.lag,
-            allowance: row.allowance,
-            good: row.good,
-            active: row.active,
-            waiting: row.queue.len(),
-        })
+        let Placed { row, .. } = self.opened(place)?;
+        Ok(Standing::from(&row))
     }
 
     // The i-th frame, from 0, that waits at an open place.
     pub fn frame(&self, place: u8, i: usize) -> Result<Option<Frame>, Refusal>
         ensures { result ≡ frames (asked (view self.now) place) i }
     {
-        let row = self.opened(place)?;
+        let Placed { row, .. } = self.opened(place)?;
         Ok(row.queue.get(i))
     }
 

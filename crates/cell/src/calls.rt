@@ -6,15 +6,13 @@ ghost use Rattle.model.specs.Promises.{Promises};
 ghost use Rattle.cell.specs.Answers.{made_as, answered};
 ghost use Rattle.cell.specs.View.{view};
 
+use super::send::QUARTERS;
 use super::state::Cell;
 use super::unmade::Unmade;
 use answer::Refusal;
 use chooser::Chooser;
 use queue::Frame;
 use session::Row;
-
-// The largest keep, in quarters.
-const QUARTERS: u8 = 4;
 
 impl<C: Chooser> Cell<C> {
     // A new cell; where the keep is above 4, the chooser comes back. Whatever is called on it from here on, it keeps its promises.
@@ -55,9 +53,9 @@ impl<C: Chooser> Cell<C> {
             (step (meant C.Chooser) (view self.old)
             (opening place rate)).cell }
     {
-        let row = self.opening(place, rate)?;
-        self.chooser.cleared(usize::from(place));
-        self.put(place, row);
+        let opened = self.opening(place, rate)?;
+        self.chooser.cleared(opened.place.index());
+        self.put(opened);
         Ok(())
     }
 
@@ -70,8 +68,8 @@ impl<C: Chooser> Cell<C> {
             (step (meant C.Chooser) (view self.old) (closing place)
             ).cell }
     {
-        let row = self.closing(place)?;
-        self.put(place, row);
+        let closed = self.closing(place)?;
+        self.put(closed);
         Ok(())
     }
 
@@ -84,8 +82,8 @@ impl<C: Chooser> Cell<C> {
             (step (meant C.Chooser) (view self.old)
             (arrival place frame.tag frame.length)).cell }
     {
-        let row = self.arrival(place, frame)?;
-        self.put(place, row);
+        let arrived = self.arrival(place, frame)?;
+        self.put(arrived);
         Ok(())
     }
 
@@ -98,8 +96,8 @@ impl<C: Chooser> Cell<C> {
             (step (meant C.Chooser) (view self.old)
             (report place good)).cell }
     {
-        let row = self.reported(place, good)?;
-        self.put(place, row);
+        let reported = self.reported(place, good)?;
+        self.put(reported);
         Ok(())
     }
 }

@@ -10,11 +10,12 @@ use session::Row;
 use table::first_to_depart;
 
 // In nearly every turn nobody departs.
+#[tactic(auto, using(departure::proofs::Releases::departures_none))]
 pub(crate) fn leave(rows: &mut [Row; 64])
     requires { TheMidway lag_bound (table_of rows.old) }
     ensures { table_of rows.new ≡ departures (table_of rows.old) }
 {
-    if let Some(_) = first_to_depart(rows) {
+    if first_to_depart(rows).is_some() {
         let table = Midway { rows: *rows };
         *rows = table.departed();
     }

@@ -1,96 +1,100 @@
 // What a call would make of its place, or why it is refused. Nothing changes here.
-ghost use Rattle.std.specs.Prelude.{◌≡◌, ◌<◌};
-ghost use Rattle.model.specs.Calls.{opening, closing, arrival, report, arrived, asked};
+ghost use Rattle.std.specs.Prelude.{◌≡◌, cond, Ok, Err, nat_le};
+ghost use Rattle.answer.specs.declared.refusal.Refusal.TheVariants.{PlaceTooHigh};
+ghost use Rattle.model.specs.Calls.{opening, closing, arrival, report, arrived};
+ghost use Rattle.model.specs.Limits.{places};
 ghost use Rattle.model.specs.Session.{vacant, fresh, with_good};
 ghost use Rattle.model.specs.Table.{at};
-ghost use Rattle.session.specs.Seen.{seen};
 ghost use Rattle.tariff.specs.Tariff.{price_of};
-ghost use Rattle.cell.specs.Plans.{sessions, plan};
+ghost use Rattle.cell.specs.Plans.{sessions, plan, opened};
 ghost use Rattle.cell.specs.View.{view};
 
+use super::placed::Placed;
+use super::row::row_at;
 use super::state::Cell;
 use answer::Refusal;
+use chooser::Place;
 use queue::Frame;
 use session::Row;
 use tariff::{LINK, Rate};
 
-// How many places there are.
-pub(crate) const PLACES: u8 = 64;
-
 // The bytes of the longest frame.
-pub(crate) const LONGEST: u16 = 1536;
+const LONGEST: u16 = 1536;
 
 impl<C> Cell<C> {
-    pub(crate) fn row(&self, place: u8) -> Row
-        requires { place < 64 }
-        ensures { seen result ≡ at (view self.now).table place }
+    // The row of a place, open or not.
+    fn found(&self, place: u8) -> Result<Placed, Refusal>
+        ensures { sessions result ≡ cond (nat_le places place) (Err PlaceTooHigh) (Ok (place, at (view self.now).table place)) }
     {
-        self.rows[usize::from(place)]
+        let place = Place::new(usize::from(place)).ok_or(Refusal::PlaceTooHigh)?;
+        let row = *row_at(&self.rows, place);
+        Ok(Placed { place, row })
     }
 
     // The row of an open place.
-    pub(crate) fn opened(&self, place: u8) -> Result<Row, Refusal>
-        ensures { sessions result ≡ asked (view self.now) place }
+    pub(crate) fn opened(&self, place: u8) -> Result<Placed, Refusal>
+        ensures { sessions result ≡ opened (view self.now) place }
     {
-        if place >= PLACES {
-            return Err(Refusal::PlaceTooHigh);
-        }
-        let row = self.row(place);
-        if !row.booked {
+        let found = self.found(place)?;
+        if !found.row.booked {
             return Err(Refusal::PlaceNotOpen);
         }
-        Ok(row)
+        Ok(found)
     }
 
-    pub(crate) fn opening(&self, place: u8, rate: u32) -> Result<Row, Refusal>
-        ensures { sessions result ≡ plan (view self.now) (opening place rate) (fresh rate (price_of rate)) }
+    pub(crate) fn opening(&self, place: u8, rate: u32) -> Result<Placed, Refusal>
+        ensures { sessions result ≡ plan (view self.now) (opening place rate) place (fresh rate (price_of rate)) }
     {
-        if place >= PLACES {
-            return Err(Refusal::PlaceTooHigh);
-        }
-        if self.row(place).booked {
+        let found = self.found(place)?;
+        if found.row.booked {
             return Err(Refusal::PlaceOpen);
         }
         let booked = Rate::new(rate)?;
         if rate > LINK - self.booked() {
             return Err(Refusal::LinkOverbooked);
         }
-        Ok(Row::fresh(booked))
+        Ok(Placed {
+            place: found.place,
+            row: Row::fresh(booked),
+        })
     }
 
-    pub(crate) fn closing(&self, place: u8) -> Result<Row, Refusal>
-        ensures { sessions result ≡ plan (view self.now) (closing place) vacant }
+    pub(crate) fn closing(&self, place: u8) -> Result<Placed, Refusal>
+        ensures { sessions result ≡ plan (view self.now) (closing place) place vacant }
     {
-        let row = self.opened(place)?;
+        let Placed { place, row } = self.opened(place)?;
         if row.active {
             return Err(Refusal::SessionActive);
         }
         if row.virtual_time > self.mark {
             return Err(Refusal::AheadOfMark);
         }
-        Ok(Row::vacant())
+        Ok(Placed {
+            place,
+            row: Row::vacant(),
+        })
     }
 
-    pub(crate) fn arrival(&self, place: u8, frame: Frame) -> Result<Row, Refusal>
+    pub(crate) fn arrival(&self, place: u8, frame: Frame) -> Result<Placed, Refusal>
         ensures { sessions result ≡
-            plan (view self.now) (arrival place frame.tag frame.length)
+            plan (view self.now) (arrival place frame.tag frame.length) place
             (arrived self.now.mark frame (at (view self.now).table place)) }
     {
-        let mut row = self.opened(place)?;
-        if (frame.length == 0) | (frame.length > LONGEST) {
+        let mut found = self.opened(place)?;
+        if frame.length == 0 || frame.length > LONGEST {
             return Err(Refusal::LengthOutOfRange);
         }
-        row.receive(frame, self.mark)?;
-        Ok(row)
+        found.row.receive(frame, self.mark)?;
+        Ok(found)
     }
 
-    pub(crate) fn reported(&self, place: u8, good: bool) -> Result<Row, Refusal>
+    pub(crate) fn reported(&self, place: u8, good: bool) -> Result<Placed, Refusal>
         ensures { sessions result ≡
-            plan (view self.now) (report place good)
+            plan (view self.now) (report place good) place
             (with_good good (at (view self.now).table place)) }
     {
-        let mut row = self.opened(place)?;
-        row.report(good);
-        Ok(row)
+        let mut found = self.opened(place)?;
+        found.row.report(good);
+        Ok(found)
     }
 }

@@ -1,4 +1,5 @@
 // How one session stands.
+use session::Row;
 
 #[derive(Clone, Copy, PartialEq, Eq, Debug)]
 pub struct Standing {
@@ -16,4 +17,25 @@ pub struct Standing {
     pub active: bool,
     // how many frames wait
     pub waiting: usize,
+}
+
+impl From<&Row> for Standing {
+    ghost use Rattle.std.specs.Prelude.{◌≡◌};
+    ghost use Rattle.session.specs.Seen.{seen};
+    ghost use Rattle.cell.specs.Asked.{standing};
+
+    ghost from_gives = { λ row s. s ≡ standing (seen row.now) };
+
+    fn from(row: &Row) -> Standing {
+        Standing {
+            rate: row.rate,
+            price: row.price,
+            virtual_time: row.virtual_time,
+            lag: row.lag,
+            allowance: row.allowance,
+            good: row.good,
+            active: row.active,
+            waiting: row.queue.len(),
+        }
+    }
 }

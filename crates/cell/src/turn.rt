@@ -1,5 +1,5 @@
 // The turn.
-ghost use Rattle.std.specs.Prelude.{◌≡◌, ◌<◌, IfSome};
+ghost use Rattle.std.specs.Prelude.{◌≡◌};
 ghost use Rattle.model.specs.Calls.{turn as a_turn, refusal, found, decide as decided, heard, step};
 ghost use Rattle.model.specs.Cell.{mark_after, all_joins};
 ghost use Rattle.model.specs.Departures.{departures};
@@ -8,19 +8,19 @@ ghost use Rattle.model.specs.Table.{at, chosen as chosen_of};
 ghost use Rattle.model.specs.Turn.{answer_of, turned};
 ghost use Rattle.table.specs.Places.{table_of};
 ghost use Rattle.cell.specs.Plans.{unless};
-ghost use Rattle.cell.specs.Turns.{Accepted, turned_as};
+ghost use Rattle.cell.specs.Turns.{Accepted, chosen_as, turned_as};
 ghost use Rattle.cell.specs.View.{view};
-ghost use Rattle.cell.specs.Ways.{way_as, handed_to, only};
+ghost use Rattle.cell.specs.Ways.{way_as, only};
 
 use super::before::look;
-use super::decide::decide;
 use super::leave::leave;
+use super::roll::Roll;
+use super::row::row_at;
 use super::send::carry_out;
-use super::settle::settle;
 use super::state::Cell;
 use super::way::Way;
 use answer::{Refusal, Turn};
-use chooser::{Chooser, Line};
+use chooser::{Chooser, Line, Place};
 use session::Row;
 use table::due;
 
@@ -29,12 +29,10 @@ const MOST_TURNS: u32 = 2_000_000_000;
 
 impl<C> Cell<C> {
     // Whose turn it is.
-    fn next(&self) -> Result<usize, Refusal>
-        ensures { result ≡ unless (refusal (view self.now) a_turn) (found (chosen_of (view self.now).table)) }
+    fn next(&self) -> Result<Place, Refusal>
+        ensures { chosen_as result ≡ unless (refusal (view self.now) a_turn) (found (chosen_of (view self.now).table)) }
     {
-        let Some(place) = due(&self.rows) else {
-            return Err(Refusal::NoneActive);
-        };
+        let place = due(&self.rows).ok_or(Refusal::NoneActive)?;
         if self.turns >= MOST_TURNS {
             return Err(Refusal::TurnsUsedUp);
         }
@@ -67,38 +65,40 @@ fn pass<C: Chooser>(
     mark: &mut u64,
     chooser: &mut C,
     keep: u8,
-    chosen: usize,
+    chosen: Place,
 ) -> Turn
-    requires { Accepted keep mark.old (table_of rows.old) chosen }
-    ensures answer { result ≡ answer_of (table_of rows.old) chosen (decided (meant C.Chooser) (only chooser.old (table_of rows.old)) chosen) }
-    ensures after { table_of rows.new ≡ departures (turned keep (table_of rows.old) chosen result.length (decided (meant C.Chooser) (only chooser.old (table_of rows.old)) chosen)) }
+    requires { Accepted keep mark.old (table_of rows.old) chosen.number }
+    ensures answer { result ≡ answer_of (table_of rows.old) chosen.number (decided (meant C.Chooser) (only chooser.old (table_of rows.old)) chosen.number) }
+    ensures after { table_of rows.new ≡ departures (turned keep (table_of rows.old) chosen.number result.length (decided (meant C.Chooser) (only chooser.old (table_of rows.old)) chosen.number)) }
     ensures marked { mark.new ≡ mark_after mark.old (table_of rows.old) (table_of rows.new) }
-    ensures told { chooser.new ≡ all_joins (meant C.Chooser) (table_of rows.old) (table_of rows.new) (heard (meant C.Chooser) (only chooser.old (table_of rows.old)) (decided (meant C.Chooser) (only chooser.old (table_of rows.old)) chosen) result.length) }
+    ensures told { chooser.new ≡ all_joins (meant C.Chooser) (table_of rows.old) (table_of rows.new) (heard (meant C.Chooser) (only chooser.old (table_of rows.old)) (decided (meant C.Chooser) (only chooser.old (table_of rows.old)) chosen.number) result.length) }
 {
     let before = look(rows);
-    let way = decide(rows, &before, chooser, chosen);
+    let way = Roll { rows }.decide(chooser, chosen);
     let turn = carry_out(rows, keep, chosen, way);
     tell_served(chooser, way, rows, turn.length);
     leave(rows);
-    *mark = settle(rows, &before, *mark, chooser);
+    *mark = Roll { rows }.settle(&before, *mark, chooser);
     turn
 }
 
 // The chooser hears who was served in another's turn.
 fn tell_served<C: Chooser>(chooser: &mut C, way: Way, rows: &[Row; 64], bytes: u16)
-    requires { IfSome (handed_to (way_as way)) (λ q. q < 64) }
     ensures { chooser.new ≡ heard (meant C.Chooser) (only chooser.old (table_of rows.now)) (way_as way) bytes }
 {
     match way {
-        Way::ByCredit(place) => chooser.served(Line::Credit, place, bytes, price(rows, place)),
-        Way::ByExtra(place) => chooser.served(Line::Extra, place, bytes, price(rows, place)),
+        Way::ByCredit(place) => {
+            chooser.served(Line::Credit, place.index(), bytes, price(rows, place));
+        }
+        Way::ByExtra(place) => {
+            chooser.served(Line::Extra, place.index(), bytes, price(rows, place));
+        }
         Way::ByRight | Way::ByAllowance | Way::Unclaimed | Way::Idle => {}
     }
 }
 
-fn price(rows: &[Row; 64], place: usize) -> u32
-    requires { place < 64 }
-    ensures { result ≡ (at (table_of rows.now) place).price }
+fn price(rows: &[Row; 64], place: Place) -> u32
+    ensures { result ≡ (at (table_of rows.now) place.number).price }
 {
-    rows[place].price
+    row_at(rows, place).price
 }

@@ -1,4 +1,5 @@
 // How the turn of the chosen session goes.
+use chooser::Place;
 
 // Where the turn is handed on, with the place that gets it.
 #[derive(Clone, Copy)]
@@ -8,11 +9,11 @@ pub(crate) enum Way {
     // it leads, but its allowance lets it send
     ByAllowance,
     // a lagging session is paid back
-    ByCredit(usize),
+    ByCredit(Place),
     // it leads beyond its allowance, but nobody is owed
     Unclaimed,
     // it is not able, and a session that is owed nothing uses the turn
-    ByExtra(usize),
+    ByExtra(Place),
     // nobody is able
     Idle,
 }

@@ -9,10 +9,9 @@ pub enum Line {
     Extra,
 }
 
-// A place that is not offered has lag 0, rate 1 and the price of rate 1.
+// The entry of a place that is offered.
 #[derive(Clone, Copy, PartialEq, Eq, Debug)]
 pub struct Entry {
-    pub offered: bool,
     pub lag: i64,
     pub rate: u32,
     pub price: u32,

@@ -32,7 +32,7 @@ impl<C: Chooser> Holder<C> {
     {
         let picked = self.peek(line, offer);
         if let Some(place) = picked {
-            if let Some(entry) = offer.at(place) {
+            if let Some(Some(entry)) = offer.at(place) {
                 self.chooser.served(line, place, length, entry.price);
             }
         }

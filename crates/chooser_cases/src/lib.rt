@@ -2,9 +2,8 @@
 #![tactic(auto)]
 
 ghost use Rattle.std.specs.Prelude.{◌≡◌, slice_set};
-ghost use Rattle.chooser.specs.Offers.{idle};
 
-use chooser::{Entry, Offer};
+use chooser::Offer;
 
 mod holder;
 #[cfg(test)]
@@ -13,18 +12,14 @@ mod tests;
 pub use holder::Holder;
 
 // An offer without one place. Whoever makes an offer shows that it is sound.
+#[tactic(auto, using(chooser::proofs::Sound::sound_set))]
 pub fn without(offer: &Offer, place: usize) -> Offer
-    ensures { result.entries ≡ slice_set offer.now.entries place idle }
+    ensures { result.entries ≡ slice_set offer.now.entries place None }
 {
     if place >= 64 {
         return *offer;
     }
     let mut entries = offer.entries;
-    entries[place] = Entry {
-        offered: false,
-        lag: 0,
-        rate: 1,
-        price: 720_720,
-    };
+    entries[place] = None;
     Offer { entries }
 }

@@ -90,10 +90,10 @@ fn offers_take_what_is_sound(rt: HostRuntime) -> Result<(), Fail> {
     }
     offer.put(3, -3_072_000_000_000, rate(7)?);
     assert!(rt; offer.offers(3) && !offer.offers(64) && !offer.offers(67));
-    let entry = offer.at(3).ok_or("no entry")?;
+    let entry = offer.at(3).flatten().ok_or("no entry")?;
     assert!(rt; entry.lag == -3_072_000_000_000 && entry.rate == 7 && entry.price == 102_960);
-    let other = offer.at(4).ok_or("no entry")?;
-    assert!(rt; !other.offered && other.lag == 0 && other.rate == 1 && other.price == 720_720);
+    let other = offer.at(4).ok_or("no such place")?;
+    assert!(rt; other.is_none());
     assert!(rt; offer.at(64).is_none());
     Ok(())
 }

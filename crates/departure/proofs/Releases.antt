@@ -1,12 +1,12 @@
 -- One departure, and all of them, as the code makes them.
-use Rattle.std.proofs.Common.{◌≡◌, ℕ, zero, suc, ◌+◌, ◌<◌, ◌≤◌, length, Some, None, Option, sym, refl, ap, ◌∙◌, arith}
+use Rattle.std.proofs.Common.{◌≡◌, ℕ, zero, suc, ◌+◌, ◌≤◌, Some, None, Option, sym, refl, ap, ◌∙◌, arith}
 use Rattle.std.proofs.lemmas.Bool.{cond_both}
 use Rattle.model.specs.Departures.{departing, gone, active_rate, share, departed, depart, departures}
 use Rattle.model.specs.Session.{above_zero}
 use Rattle.model.specs.Table.{Table, at, change, total, booked_total, first, active_count}
 use Rattle.model.proofs.Departures.{once_fewer, depart_total, depart_owes}
 use Rattle.departure.specs.Owing.{owing}
-use Rattle.model.proofs.Tables.{total_change, total_same, total_le}
+use Rattle.model.proofs.Tables.{first_found, total_change, total_same, total_le}
 
 -- those who share have booked their rates
 pub rates_gone : (t : Table) (k : ℕ) → total active_rate (change t k gone) ≤ booked_total t
@@ -14,10 +14,6 @@ rates_gone t k =
     let u = change t k gone in
     let less = total_le active_rate (λ s. s.rate) u (λ j. cond_both (at u j).active (at u j).rate 0 (λ n. n ≤ (at u j).rate) (λ _. omega arith) (λ _. omega arith)) in
     omega (arith, less, total_same (λ s. s.rate) t k gone refl)
-
--- what the others are owed, and what the one was that is gone
-pub owing_gone : (t : Table) (k : ℕ) → k < length t → owing (change t k gone) + above_zero (at t k).lag ≡ owing t
-owing_gone t k l = omega (arith, total_change (λ s. above_zero s.lag) t k gone l)
 
 -- a departure is a lag shared over the table without its session
 pub departed_is : (t : Table) (k lag rates : ℕ) (left : Table) → left ≡ change t k gone → lag ≡ above_zero (at t k).lag → rates ≡ total active_rate left
@@ -30,6 +26,13 @@ departed_is t k lag rates left e l r =
 
 -- a departure keeps what is booked, and adds nothing to what is owed
 module _ (t : Table) (k : ℕ) (found : first departing t ≡ Some k) where
+  -- what the others are owed, and what the one was that is gone
+  pub owing_gone : owing (change t k gone) + above_zero (at t k).lag ≡ owing t
+  owing_gone = omega (arith, total_change (λ s. above_zero s.lag) t k gone (first_found departing t k found).0)
+
+  pub booked_gone : booked_total (change t k gone) ≡ booked_total t
+  booked_gone = total_same (λ s. s.rate) t k gone refl
+
   pub same_booked : booked_total (departed t (Some k)) ≡ booked_total t
   unfolding depart
   same_booked = ap (λ (o : Option ℕ). booked_total (departed t o)) (sym found) ∙ depart_total (λ s. s.rate) (λ n s. refl) (λ s. refl) 1 t

@@ -1,7 +1,5 @@
 -- A lag shared place by place, as the code walks over the rows.
-use Rattle.std.proofs.Common.{◌≡◌, ℕ, ◌+◌, ◌-◌, ◌*◌, ◌/◌, ◌<◌, ◌≤◌, List, [], ◌∷◌, ◌++◌, length, get_or, take, drop, set, sym, ap, ◌∙◌, append_assoc, mul_comm, mul-le-mul_left, div-mul-le_self, arith}
-use native.Mathlib.Nat.{div-le_of_le-mul}
-use Rattle.std.proofs.lemmas.Nat.{le-div}
+use Rattle.std.proofs.Common.{◌≡◌, ℕ, ◌+◌, ◌-◌, ◌<◌, ◌≤◌, List, [], ◌∷◌, ◌++◌, length, get_or, take, drop, set, sym, ap, ◌∙◌, append_assoc, arith}
 use Rattle.std.proofs.lemmas.List.{append-nil, take_more_set, take_all, drop_all, drop-set-lt, map-set}
 use Rattle.model.specs.Departures.{active_rate, part, share}
 use Rattle.model.specs.Table.{Table}
@@ -10,15 +8,6 @@ use Rattle.session.specs.Seen.{seen}
 use Rattle.session.specs.declared.row.Row.{Row}
 use Rattle.table.specs.Places.{table_of}
 use Rattle.table.proofs.Tables.{length_table, left_more}
-
-pub part_mono : (lag r a b : ℕ) → 0 < r → a ≤ b → part lag r a ≤ part lag r b
-part_mono lag r a b some l =
-    let x = div-mul-le_self (lag * a) r in
-    let y = mul-le-mul_left lag l in
-    le-div (lag * a / r) (lag * b) r some (omega (arith, x, y))
-
-pub part_most : (lag r a : ℕ) → a ≤ r → part lag r a ≤ lag
-part_most lag r a l = let m = mul-le-mul_left lag l in div-le_of_le-mul r (omega (arith, m, mul_comm r lag))
 
 -- a row written
 pub table_set : (rows : List Row) (i : ℕ) (r : Row) → table_of (set rows i r) ≡ set (table_of rows) i (seen r)

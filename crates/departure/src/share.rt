@@ -12,56 +12,58 @@ ghost use Rattle.departure.specs.Owing.{owing};
 
 use session::Row;
 
-// Shares a lag over the active sessions, whose rates add up to `rates`.
-pub(crate) fn share(rows: &mut [Row; 64], lag: u64, rates: u64)
-    requires some { 0 < rates }
-    requires rates { rates ≡ total active_rate (table_of rows.old) }
-    requires few { rates ≤ link }
-    requires lags { owing (table_of rows.old) + lag ≤ lag_bound }
-    ensures { table_of rows.new ≡ shared lag rates 0 (table_of rows.old) }
-{
-    let mut upto = 0;
-    for i in 0..64usize {
-        upto = give(&mut rows[i], lag, rates, upto);
+// A lag, and what the rates add up to by which it is shared.
+#[derive(Clone, Copy)]
+pub(crate) struct Sharing {
+    pub(crate) lag: u64,
+    pub(crate) rates: u64,
+    ghost some: { 0 < rates },
+    ghost few: { rates ≤ link },
+    ghost lags: { lag ≤ lag_bound },
+}
+
+impl Sharing {
+    // Shares the lag over the active sessions.
+    pub(crate) fn over(self, rows: &mut [Row; 64])
+        requires rates { self.rates ≡ total active_rate (table_of rows.old) }
+        requires lags { owing (table_of rows.old) + self.lag ≤ lag_bound }
+        ensures { table_of rows.new ≡ shared self.lag self.rates 0 (table_of rows.old) }
+    {
+        let mut upto = 0;
+        for row in rows {
+            upto = self.give(row, upto);
+        }
     }
-}
 
-// Gives a session its share, the rates of the places before it adding up to `before`, and answers what they add up to with it.
-fn give(row: &mut Row, lag: u64, rates: u64, before: u64) -> u64
-    requires some { 0 < rates }
-    requires few { rates ≤ link }
-    requires room { before + active_rate (seen row.old) ≤ rates }
-    requires lags { above_zero (seen row.old).lag + lag ≤ lag_bound }
-    ensures upto { result ≡ before + active_rate (seen row.old) }
-    ensures after { seen row.new ≡ owed (part_of lag rates result - part_of lag rates before) (seen row.old) }
-{
-    let upto = before + row.active_rate();
-    let more = between(lag, rates, before, upto);
-    row.lag += more as i64;
-    upto
-}
+    // Gives a session its share, the rates of the places before it adding up to `before`, and answers what they add up to with it.
+    fn give(self, row: &mut Row, before: u64) -> u64
+        requires room { before + active_rate (seen row.old) ≤ self.rates }
+        requires lags { above_zero (seen row.old).lag + self.lag ≤ lag_bound }
+        ensures upto { result ≡ before + active_rate (seen row.old) }
+        ensures after { seen row.new ≡ owed (part_of self.lag self.rates result - part_of self.lag self.rates before) (seen row.old) }
+    {
+        let upto = before + row.active_rate();
+        let more = self.between(before, upto);
+        row.lag += more as i64;
+        upto
+    }
 
-// Of a lag shared over `rates`, what is left for the places between two sums of rates.
-fn between(lag: u64, rates: u64, before: u64, upto: u64) -> u64
-    requires some { 0 < rates }
-    requires few { rates ≤ link }
-    requires order { before ≤ upto }
-    requires room { upto ≤ rates }
-    requires lags { lag ≤ lag_bound }
-    ensures is { result ≡ part_of lag rates upto - part_of lag rates before }
-    ensures most { result ≤ lag }
-{
-    part(lag, rates, upto) - part(lag, rates, before)
-}
+    // What is left for the places between two sums of rates.
+    fn between(self, before: u64, upto: u64) -> u64
+        requires order { before ≤ upto }
+        requires room { upto ≤ self.rates }
+        ensures is { result ≡ part_of self.lag self.rates upto - part_of self.lag self.rates before }
+        ensures most { result ≤ self.lag }
+    {
+        self.part(upto) - self.part(before)
+    }
 
-// Of a lag shared over `rates`, what those places have together whose rates add up to `upto`.
-fn part(lag: u64, rates: u64, upto: u64) -> u64
-    requires some { 0 < rates }
-    requires few { rates ≤ link }
-    requires room { upto ≤ rates }
-    requires lags { lag ≤ lag_bound }
-    ensures is { result ≡ part_of lag rates upto }
-    ensures most { result ≤ lag }
-{
-    lag * upto / rates
+    // What those places have together whose rates add up to `upto`.
+    fn part(self, upto: u64) -> u64
+        requires { upto ≤ self.rates }
+        ensures is { result ≡ part_of self.lag self.rates upto }
+        ensures most { result ≤ self.lag }
+    {
+        self.lag * upto / self.rates
+    }
 }

@@ -1,7 +1,7 @@
 -- Every worked figure, in one statement about the definitions that the contracts cite.
-use Rattle.std.specs.Prelude.{◌≡◌, List, ◌∷◌, take, replicate, pos, Some}
+use Rattle.std.specs.Prelude.{◌≡◌, List, ◌∷◌, take, replicate, pos, Some, None, Option}
 use Rattle.chooser.specs.declared.entry.Entry.{Entry}
-use Rattle.chooser.specs.Offers.{idle, offered}
+use Rattle.chooser.specs.Offers.{offered}
 use Rattle.largest_debt.specs.Largest.{debt_at, largest_debt}
 use Rattle.tariff.specs.Tariff.{price_of}
 use Rattle.model.specs.Table.{at}
@@ -10,8 +10,8 @@ use Rattle.model.specs.Figures.{FiguresStand}
 use Rattle.figures.specs.Run.{least, new_cell, run, run_answers, answers}
 
 -- two places are offered: 0 and 1
-abbrev pub two : Entry → Entry → List Entry
-two a b = a ∷ b ∷ replicate 62 idle
+abbrev pub two : Entry → Entry → List (Option Entry)
+two a b = Some a ∷ Some b ∷ replicate 62 None
 
 abbrev pub owed_10 : Entry
 owed_10 = offered (pos 10) 20 (price_of 20)

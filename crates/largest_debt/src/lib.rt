@@ -10,29 +10,26 @@ ghost use Rattle.largest_debt.specs.Laws.{largest_is_offered};
 
 use chooser::{Chooser, Entry, Line, Offer};
 use keys::{Debt, least};
+use std::array;
 
 // It holds nothing: the offer says all that it goes by.
 #[derive(Clone, Copy)]
 pub struct LargestDebt;
 
+#[tactic(auto, using(crate::proofs::Debts::product_fits))]
 fn debt_of(entry: Entry) -> Debt
     requires near { unsigned_abs entry.lag ≤ lag_bound }
     requires price { entry.price ≤ 720720 }
     ensures { result ≡ debt (entry.lag *ℤ pos entry.price) }
 {
-    Debt(entry.lag * entry.price as i64)
+    Debt(entry.lag * i64::from(entry.price))
 }
 
-// The debt of a place that is offered.
+// The debt of a place, if it is offered.
 fn debt_at(offer: &Offer, place: usize) -> Option<Debt>
     ensures { result ≡ key_at (offered_at offer.now.entries) (debt_key offer.now.entries) place }
 {
-    let entry = offer.at(place)?;
-    if entry.offered {
-        Some(debt_of(entry))
-    } else {
-        None
-    }
+    Some(debt_of(offer.at(place)??))
 }
 
 impl Chooser for LargestDebt {
@@ -50,10 +47,7 @@ impl Chooser for LargestDebt {
         ensures value { result ≡ largest_debt offer.now.entries }
         ensures largest { PicksLargest offer.now.entries result }
     {
-        let mut debts: [Option<Debt>; 64] = [None; 64];
-        for place in 0..64 {
-            debts[place] = debt_at(offer, place);
-        }
+        let debts: [Option<Debt>; 64] = array::from_fn(|place| debt_at(offer, place));
         least(&debts)
     }
 

@@ -49,7 +49,7 @@ raised_low : (b : ℕ) (c : LeastServed) (line : Line) (n : ℕ) (r : Option ℕ
 raised_low b c line n None h low = h
 raised_low b c line n (Some first) h low = let k = low line first in omega arith
 
-pub joined_low : (b : ℕ) (c : LeastServed) (line : Line) (place : ℕ) (es : List Entry) → Within b c → Within b (after_joined c line place es)
+pub joined_low : (b : ℕ) (c : LeastServed) (line : Line) (place : ℕ) (es : List (Option Entry)) → Within b c → Within b (after_joined c line place es)
 joined_low b c line place es low =
     cond_both (ltb place 64) (with_count c line place (joined_count c line place es)) c (Within b)
     (λ _. with_count_low b c line place _ (raised_low b c line (count_at c line place) (least_served c line es) (low line place) low) low)

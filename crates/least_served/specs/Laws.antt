@@ -12,7 +12,7 @@ use Rattle.chooser.proofs.Picks.{picks_first, picks_offered, picked_inside}
 use Rattle.least_served.specs.declared.counts.LeastServed.{LeastServed}
 use Rattle.least_served.specs.Served.{count_at, count_key, least_served, PicksLeastServed}
 
-module _ (c : LeastServed) (line : Line) (es : List Entry) (s : sound es ≡ true) where
+module _ (c : LeastServed) (line : Line) (es : List (Option Entry)) (s : sound es ≡ true) where
   picks_least_from : (r : Option ℕ) → PicksFirst count_before (count_key c line) es r → PicksLeastServed c line es r
   picks_least_from None h = h
   picks_least_from (Some place) h = record {

@@ -34,17 +34,17 @@ asked_count c line place = cond (nat_lt place 64) (Some (count_at c line place))
 abbrev pub count_key : LeastServed → Line → ℕ → Count
 count_key c line place = count (count_at c line place)
 
-abbrev pub least_served : LeastServed → Line → List Entry → Option ℕ
+abbrev pub least_served : LeastServed → Line → List (Option Entry) → Option ℕ
 least_served c line es = first_by count_before (count_key c line) es
 
 -- the place is offered; no offered place has a smaller count in the list, and one with the same count stands no lower
-pub record IsLeastServed (c : LeastServed) (line : Line) (es : List Entry) (place : ℕ) : Type 0 where
+pub record IsLeastServed (c : LeastServed) (line : Line) (es : List (Option Entry)) (place : ℕ) : Type 0 where
   pub offered : offered_at es place ≡ true
   pub none_smaller : (other : ℕ) → offered_at es other ≡ true → count_at c line place ≤ count_at c line other
   pub lowest : (other : ℕ) → offered_at es other ≡ true → count_at c line other ≡ count_at c line place → place ≤ other
 
 -- none is picked only when no place is offered
-abbrev pub PicksLeastServed : LeastServed → Line → List Entry → Option ℕ → Type 0
+abbrev pub PicksLeastServed : LeastServed → Line → List (Option Entry) → Option ℕ → Type 0
 PicksLeastServed c line es None = (place : ℕ) → offered_at es place ≡ false
 PicksLeastServed c line es (Some place) = IsLeastServed c line es place
 
@@ -68,10 +68,10 @@ raised c line n None = n
 raised c line n (Some first) = max n (count_at c line first)
 
 -- joined raises the count to the smallest one offered
-abbrev pub joined_count : LeastServed → Line → ℕ → List Entry → ℕ
+abbrev pub joined_count : LeastServed → Line → ℕ → List (Option Entry) → ℕ
 joined_count c line place es = raised c line (count_at c line place) (least_served c line es)
 
-abbrev pub after_joined : LeastServed → Line → ℕ → List Entry → LeastServed
+abbrev pub after_joined : LeastServed → Line → ℕ → List (Option Entry) → LeastServed
 after_joined c line place es = cond (nat_lt place 64) (with_count c line place (joined_count c line place es)) c
 
 -- cleared sets both counts to 0

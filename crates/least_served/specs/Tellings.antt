@@ -1,6 +1,6 @@
 -- Whatever a new one is told, in whatever order: a serving adds at most 1,536 bytes times 720,720 to a count,
 -- so that 2,000,000,000 servings bring none to the stop, and the stop never makes a difference.
-use Rattle.std.specs.Prelude.{◌≡◌, ℕ, ◌+◌, ◌*◌, ◌≤◌, List, [], ◌∷◌}
+use Rattle.std.specs.Prelude.{◌≡◌, ℕ, ◌+◌, ◌*◌, ◌≤◌, List, [], ◌∷◌, Option}
 use Rattle.chooser.specs.declared.entry.Entry.{Entry}
 use Rattle.chooser.specs.declared.entry.Line.{Line}
 use Rattle.least_served.specs.declared.counts.LeastServed.{LeastServed}
@@ -9,7 +9,7 @@ use Rattle.least_served.specs.Served.{unserved, count_at, stopped, after_served,
 -- served: list, place, length and price; joined: list, place and offer; cleared: place
 pub data Telling : Type 0 where
   served : Line → ℕ → ℕ → ℕ → Telling
-  joined : Line → ℕ → List Entry → Telling
+  joined : Line → ℕ → List (Option Entry) → Telling
   cleared : ℕ → Telling
 
 abbrev pub told : (ℕ → ℕ) → LeastServed → Telling → LeastServed

@@ -5,7 +5,7 @@ ghost use Rattle.std.specs.Prelude.{◌≡◌};
 ghost use Rattle.least_served.specs.Served.{least_served, PicksLeastServed, stopped, after_served as counts_after_served, after_joined as counts_after_joined, after_cleared as counts_after_cleared};
 ghost use Rattle.least_served.specs.Laws.{least_is_offered};
 
-use chooser::{Chooser, Line, Offer};
+use chooser::{Chooser, Line, Offer, Place};
 use tariff::listed;
 
 mod counts;
@@ -31,20 +31,23 @@ impl Chooser for LeastServed {
     }
 
     fn served(&mut self, line: Line, place: usize, length: u16, price: u32) {
-        if place < 64 && length <= 1_536 && listed(price) {
-            self.add(line, place, length as u64 * price as u64);
+        let Some(place) = Place::new(place) else {
+            return;
+        };
+        if length <= 1_536 && listed(price) {
+            self.add(line, place, u64::from(length) * u64::from(price));
         }
     }
 
     fn joined(&mut self, line: Line, place: usize, offer: &Offer) {
-        if place < 64 {
+        if let Some(place) = Place::new(place) {
             let count = self.joined_count(line, place, offer);
             self.set(line, place, count);
         }
     }
 
     fn cleared(&mut self, place: usize) {
-        if place < 64 {
+        if let Some(place) = Place::new(place) {
             self.set(Line::Credit, place, 0);
             self.set(Line::Extra, place, 0);
         }

@@ -1,5 +1,6 @@
 -- Whose turn it is, and who sends in it: every offer that a cell makes is sound, so each pick is one of those offered.
 use Rattle.std.proofs.Common.{◌≡◌, ℕ, zero, suc, ◌+◌, ◌*◌, ◌<◌, ◌≤◌, Bool, true, false, not, ◌&&◌, eqb, leb, ◌⊎◌, List, [], ◌∷◌, length, ℤ, pos, negsuc, ◌+ℤ◌, nat_abs, Some, None, Option, sym, refl, ap, ◌∙◌, inl, inr, arith}
+use Rattle.std.specs.Option.{is_some}
 use borrow.Author.Differences.{ints}
 use Rattle.std.proofs.lemmas.Bool.{both_ways, and_parts, and_from, eq-eqb, le-leb, cases_lt}
 use Rattle.tariff.specs.Tariff.{link}
@@ -19,7 +20,7 @@ use Rattle.model.proofs.Chosen.{chosen_next}
 
 -- ---- who sends
 
-entry_offered : (b : Bool) (s : Session) → (entry b s).offered ≡ b
+entry_offered : (b : Bool) (s : Session) → is_some (entry b s) ≡ b
 entry_offered true s = refl
 entry_offered false s = refl
 

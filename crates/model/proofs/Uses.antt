@@ -21,7 +21,6 @@ use Rattle.model.proofs.Departures.{midway_of}
 use Rattle.model.proofs.Senders.{lag_within, sound_offer, sound_stayed, decides, chosen_is}
 use Rattle.model.proofs.Turn.{way_fits, way_draft, way_owes}
 use Rattle.model.proofs.Bounds.{Low, dear, turned_low}
-use Rattle.model.proofs.Queues.{sender_inside}
 use Rattle.model.proofs.Books.{ordered_of, within_of, new_sound, step_sound}
 
 -- ---- the books
@@ -60,9 +59,6 @@ module _ {keep mark turns : ℕ} {t : Table} (b : Books keep mark turns t) where
 module _ {C : Type 0} (M : Meaning C) (law : Lawful M) (x : Cell C) (b : Sound x) (c : ℕ) (e : chosen x.table ≡ Some c) where
   pub turn_length : length_of x.table (sender c (decide M x c)) ≤ longest
   turn_length = way_fits x.mark x.table c (decide M x c) (ordered_of x b).book.draft (decides M law x c (ordered_of x b))
-
-  pub turn_sender : (q : ℕ) → sender c (decide M x c) ≡ Some q → q < places
-  turn_sender q f = omega (arith, sender_inside x.table c (decide M x c) (decides M law x c (ordered_of x b)) q f, b.size)
 
   -- virtual times and allowances after the charge
   pub turn_low : (j : ℕ) →

@@ -28,7 +28,7 @@ mark_after mark t u = mark_from (least u) (none_active t) (greatest u) mark
 
 module _ {C : Type 0} (M : Meaning C) where
   -- from place k up, each place newly in a list is told as joined, with the offer of those that stayed
-  unfoldable pub told : Line → List Entry → ℕ → List Bool → Table → C → C
+  unfoldable pub told : Line → List (Option Entry) → ℕ → List Bool → Table → C → C
   told l stay k [] t c = c
   told l stay k (b ∷ bs) [] c = c
   told l stay k (b ∷ bs) (s ∷ t) c = told l stay (suc k) bs t (cond (not b && in_line l s) (M.joined c l k stay) c)

@@ -6,18 +6,18 @@ use Rattle.chooser.specs.declared.Chooser.{Ghosts}
 use Rattle.model.specs.Lists.{Entry, Line}
 
 pub record Meaning (C : Type 0) : Type 0 where
-  pub pick : C → Line → List Entry → Option ℕ
+  pub pick : C → Line → List (Option Entry) → Option ℕ
   pub served : C → Line → ℕ → ℕ → ℕ → C  -- place, length, price
-  pub joined : C → Line → ℕ → List Entry → C  -- place, who stayed
+  pub joined : C → Line → ℕ → List (Option Entry) → C  -- place, who stayed
   pub cleared : C → ℕ → C  -- place
 
 -- of every sound offer the pick is an offered place if there is one, and none otherwise
 abbrev pub Lawful : {C : Type 0} → Meaning C → Type 0
-Lawful {C} M = (c : C) (l : Line) (es : List Entry) → sound es ≡ true → PicksOffered es (M.pick c l es)
+Lawful {C} M = (c : C) (l : Line) (es : List (Option Entry)) → sound es ≡ true → PicksOffered es (M.pick c l es)
 
 -- ---- a chooser of the code: it sees sound offers only, and a cell makes no other
 
-abbrev pub if_sound : {X : Type 0} → X → (Offer → X) → (es : List Entry) (b : Bool) → sound es ≡ b → X
+abbrev pub if_sound : {X : Type 0} → X → (Offer → X) → (es : List (Option Entry)) (b : Bool) → sound es ≡ b → X
 if_sound x f es true e = f (record { entries = es; ok = e })
 if_sound x f es false e = x
 

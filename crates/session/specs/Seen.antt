@@ -23,7 +23,7 @@ seen r = record {
 }
 
 -- what an offer of those who stayed in a list says of a session, given whether it stood there before
-abbrev pub stay : Line → Bool → Session → Entry
+abbrev pub stay : Line → Bool → Session → Option Entry
 stay l before s = entry (before && in_line l s) s
 
 -- the key by which a session is due: an active one's virtual time

@@ -1,13 +1,13 @@
 // What can be asked of one place.
 ghost use Rattle.std.specs.Prelude.{◌≡◌};
-ghost use Rattle.model.specs.Lists.{in_line, entry};
+ghost use Rattle.chooser.specs.Offers.{offered};
+ghost use Rattle.model.specs.Lists.{in_line};
 ghost use Rattle.model.specs.Session.{waiting, able, lags, leads};
 ghost use Rattle.session.specs.Seen.{seen, stay, time_key};
 
 use super::row::Row;
 use chooser::{Entry, Line};
 use keys::VirtualTime;
-use tariff::LINK;
 
 impl Row {
     // Whether a frame waits.
@@ -21,7 +21,7 @@ impl Row {
     pub fn able(&self) -> bool
         ensures { result ≡ able (seen self.now) }
     {
-        self.waits() & self.good
+        self.waits() && self.good
     }
 
     // Whether it is owed service.
@@ -49,29 +49,19 @@ impl Row {
     }
 
     // What an offer of those who stayed in a list says of it, given whether it stood there before.
-    pub fn stays(&self, line: Line, before: bool) -> Entry
+    pub fn stays(&self, line: Line, before: bool) -> Option<Entry>
         ensures { result ≡ stay line before (seen self.now) }
     {
-        self.entry(before & self.stands_in(line))
+        (before & self.stands_in(line)).then_some(self.entry())
     }
 
-    fn entry(&self, offered: bool) -> Entry
-        ensures { result ≡ entry offered (seen self.now) }
+    fn entry(&self) -> Entry
+        ensures { result ≡ offered self.now.lag self.now.rate self.now.price }
     {
-        if offered {
-            Entry {
-                offered: true,
-                lag: self.lag,
-                rate: self.rate,
-                price: self.price,
-            }
-        } else {
-            Entry {
-                offered: false,
-                lag: 0,
-                rate: 1,
-                price: LINK,
-            }
+        Entry {
+            lag: self.lag,
+            rate: self.rate,
+            price: self.price,
         }
     }
 
@@ -79,10 +69,6 @@ impl Row {
     pub fn key(&self) -> Option<VirtualTime>
         ensures { result ≡ time_key (seen self.now) }
     {
-        if self.active {
-            Some(VirtualTime(self.virtual_time))
-        } else {
-            None
-        }
+        self.active.then_some(VirtualTime(self.virtual_time))
     }
 }

@@ -35,12 +35,8 @@ impl Row {
             booked: true,
             rate: rate.units(),
             price: rate.price(),
-            virtual_time: 0,
-            lag: 0,
-            allowance: 0,
             good: true,
-            active: false,
-            queue: Queue::new(),
+            ..Row::vacant()
         }
     }
 

@@ -14,17 +14,14 @@ impl Row {
         ensures frame { result ≡ front (seen self.old).queue }
         ensures after { seen self.new ≡ popped (seen self.old) }
     {
-        match self.queue.pop() {
-            Some(frame) => frame,
-            None => Frame { tag: 0, length: 0 },
-        }
+        self.queue.pop().unwrap_or(Frame { tag: 0, length: 0 })
     }
 
     // Whether it departs: it is active, but has no frame and does not lead.
     pub fn departs(&self) -> bool
         ensures { result ≡ departing (seen self.now) }
     {
-        self.active & !self.waits() & !self.leads()
+        self.active && !self.waits() && !self.leads()
     }
 
     // The rate by which it shares what another was owed.

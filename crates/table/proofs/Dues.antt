@@ -1,12 +1,12 @@
 -- Who is due: what the one search for the least key finds is the session that the definition asks for.
 use Rattle.std.proofs.Common.{◌≡◌, ℕ, zero, suc, ◌<◌, ◌≤◌, Bool, true, false, cond, ◌⊎◌, [], ◌∷◌, map, length, get_or, IfSome, Some, None, Option, sym, refl, ap, ◌∙◌, inl, inr, arith}
-use Rattle.std.proofs.lemmas.Bool.{both_ways, cases_Bool, cases_lt, cond-true, ltb-true, ltb-false}
+use Rattle.std.proofs.lemmas.Bool.{both_ways, cases_lt, cond-true, ltb-true, ltb-false}
 use Rattle.std.specs.Option.{option_map}
 use Rattle.keys.specs.Kinds.{time, time_before}
 use Rattle.keys.specs.Least.{Least, LeastAt}
 use Rattle.keys.specs.declared.time.VirtualTime.{VirtualTime}
 use Rattle.model.proofs.Chosen.{Next, chosen_next, chosen_some, next_chosen}
-use Rattle.model.proofs.Settle.{least_some, some_active}
+use Rattle.model.proofs.Settle.{least_some}
 use Rattle.model.proofs.Share.{least_reached}
 use Rattle.model.proofs.Tables.{at_past}
 use Rattle.model.specs.Session.{Session}
@@ -26,7 +26,7 @@ key_active t j a = key_read t j ∙ cond-true (at t j).active (Some (time (at t 
 
 key_some : (b : Bool) (v : ℕ) (key : VirtualTime) → cond b (Some (time v)) None ≡ Some key → (b ≡ true) × (key.0 ≡ v)
 key_some true v key e = (refl, let s : key ≡ time v = cc in ap (λ (k : VirtualTime). k.0) s)
-key_some false v key e = let z : ◌≡◌ {A = ℕ} 0 1 = cc in absurd (omega arith)
+key_some false v key e = absurd (cc)
 
 active_inside : (t : Table) (j : ℕ) → (at t j).active ≡ true → j < length t
 active_inside t j a = by (cases_lt j (length t))
@@ -53,15 +53,15 @@ none_chosen t None e h = refl
 none_chosen t (Some c) e h =
     let some = key_active t c (chosen_next t c e).active in
     let none = h c in
-    let z : ◌≡◌ {A = ℕ} 0 1 = cc in absurd (omega arith)
+    absurd (cc)
 
 pub search_is : (t : Table) (r : Option ℕ) → Least time_before (map time_key t) r → r ≡ chosen t
 search_is t None h = none_chosen t (chosen t) refl h
 search_is t (Some i) h = sym (next_chosen t i (least_next t i h.0 h.1))
 
-pub chosen_inside : (t : Table) (o : Option ℕ) → o ≡ chosen t → IfSome o (λ i. i < length t)
-chosen_inside t None e = tt
-chosen_inside t (Some c) e = (chosen_next t c (sym e)).inside
+pub chosen_inside : (t : Table) (o : Option ℕ) → length t ≡ 64 → o ≡ chosen t → IfSome o (λ i. i < 64)
+chosen_inside t None n e = tt
+chosen_inside t (Some c) n e = omega (arith, (chosen_next t c (sym e)).inside)
 
 -- ---- and who is due has the smallest virtual time
 
@@ -89,17 +89,3 @@ none_mapped f (Some c) = refl
 -- nobody is due exactly when nobody is active
 pub idle_is : (t : Table) → none_active t ≡ is_none (chosen t)
 idle_is t = ap is_none (least_is t) ∙ none_mapped (λ i. (at t i).virtual_time) (chosen t)
-
--- ---- whether anybody is active at all
-
-pub one_active : (t : Table) (j : ℕ) → (at t j).active ≡ true → none_active t ≡ false
-one_active t j a = ap is_none (least_some t j a).1
-
-pub all_idle : (t : Table) → ((j : ℕ) → j < length t → (at t j).active ≡ false) → none_active t ≡ true
-all_idle t h = by (cases_Bool (none_active t))
-  where
-    by : (none_active t ≡ true) ⊎ (none_active t ≡ false) → none_active t ≡ true
-    by (inl e) = e
-    by (inr e) =
-        let a = some_active t e in
-        absurd (both_ways (at t a.0).active (h a.0 (active_inside t a.0 a.1)) a.1)

@@ -1,6 +1,5 @@
-pub mod Built
+pub mod Chains
 pub mod Dues
-pub mod Joining
+pub mod Numbers
 pub mod Offering
 pub mod Tables
-pub mod Walks

@@ -1,25 +1,21 @@
 -- Lists made from a table place by place.
-use Rattle.std.proofs.Common.{◌≡◌, ℕ, zero, suc, ◌<◌, Bool, true, ◌&&◌, List, [], ◌∷◌, map, length, get_or, replicate, refl, ap, ◌∙◌, arith}
-use Rattle.std.proofs.lemmas.List.{length-map, get_or-map}
+use Rattle.std.proofs.Common.{◌≡◌, ℕ, zero, suc, ◌<◌, Bool, true, ◌&&◌, List, [], ◌∷◌, map, Option, length, get_or, replicate, refl, sym, ap, ◌∙◌, arith}
+use Rattle.std.proofs.lemmas.List.{same_lists, length-map, get_or-map}
 use Rattle.chooser.specs.declared.entry.Entry.{Entry}
 use Rattle.chooser.specs.declared.entry.Line.{Line}
+use Rattle.model.proofs.Tables.{at_is}
 use Rattle.model.specs.Lists.{in_line, entry, offer, stayed}
-use Rattle.model.specs.Session.{Session}
-use Rattle.model.specs.Table.{Table}
-use Rattle.session.specs.Seen.{seen}
+use Rattle.model.specs.Session.{Session, vacant}
+use Rattle.model.specs.Table.{Table, at}
 use Rattle.session.specs.declared.row.Row.{Row}
 use Rattle.table.specs.Places.{table_of}
-use Rattle.table.proofs.Tables.{length_table, getD_table}
+use Rattle.table.proofs.Tables.{length_table}
 
--- a list made of each session by a function
-pub length_made : {Y : Type 0} (f : Session → Y) (rows : List Row) → length (map f (table_of rows)) ≡ length rows
-length_made f rows = length-map (table_of rows) f ∙ length_table rows
-
-pub getD_made : {Y : Type 0} (f : Session → Y) (rows : List Row) (i : ℕ) (d : Row) (e : Y) → i < length rows →
-    get_or (map f (table_of rows)) i e ≡ f (seen (get_or rows i d))
-getD_made f rows i d e l =
-    let m : i < length (table_of rows) = omega (arith, length_table rows) in
-    get_or-map f (table_of rows) i (seen d) e m ∙ ap f (getD_table rows i d (seen d) l)
+-- a list that has of each session what h says
+pub listed : {B : Type 0} (h : Session → B) (t : Table) (ys : List B) (n : ℕ) → length ys ≡ n → length t ≡ n → ((k : ℕ) (d : B) → k < n → get_or ys k d ≡ h (at t k)) → ys ≡ map h t
+listed h t ys n long size each =
+    same_lists ys (map h t) (long ∙ sym size ∙ sym (length-map t h))
+    (λ k d l. each k d (omega arith) ∙ ap h (at_is t k) ∙ sym (get_or-map h t k vacant d (omega arith)))
 
 pub length_stayed : (l : Line) (bs : List Bool) (t : Table) → length bs ≡ length t → length (stayed l bs t) ≡ length bs
 unfolding stayed
@@ -27,7 +23,7 @@ length_stayed l [] t e = refl
 length_stayed l (b ∷ bs) [] e = absurd (omega arith)
 length_stayed l (b ∷ bs) (s ∷ t) e = ap suc (length_stayed l bs t (omega arith))
 
-pub getD_stayed : (l : Line) (bs : List Bool) (t : Table) (i : ℕ) (e : Entry) (b : Bool) (d : Session) → length bs ≡ length t →
+pub getD_stayed : (l : Line) (bs : List Bool) (t : Table) (i : ℕ) (e : Option Entry) (b : Bool) (d : Session) → length bs ≡ length t →
     i < length bs → get_or (stayed l bs t) i e ≡ entry (get_or bs i b && in_line l (get_or t i d)) (get_or t i d)
 unfolding stayed
 getD_stayed l [] t i e b d same h = absurd (omega arith)

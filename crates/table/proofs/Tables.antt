@@ -1,7 +1,9 @@
 -- Rows and the table that they stand for, place by place.
-use Rattle.std.proofs.Common.{◌≡◌, ℕ, ◌+◌, ◌<◌, ◌≤◌, List, [], ◌∷◌, map, length, get_or, drop, set, IfSome, Some, None, Option, sym, refl, ap, ◌∙◌, arith}
-use Rattle.std.proofs.lemmas.List.{length-map, get_or-map, map-set, at_drop_more, at_drop_all}
+use Rattle.std.proofs.Common.{◌≡◌, ℕ, ◌+◌, ◌<◌, List, ◌∷◌, map, length, get_or, drop, set, Some, None, Option, sym, refl, ap, ◌∙◌, arith}
+use Rattle.std.proofs.lemmas.List.{length-map, get_or-map, map-set, at_drop_more}
 use Rattle.std.specs.Option.{option_map}
+use Rattle.chooser.specs.Places.{numbers}
+use Rattle.chooser.specs.declared.place.Place.{Place}
 use Rattle.model.proofs.Tables.{at_is, change_is}
 use Rattle.model.specs.Session.{Session, vacant}
 use Rattle.model.specs.Table.{Table, at, change}
@@ -35,11 +37,8 @@ left_more F rows i d l =
     let m : i < length (table_of rows) = omega (arith, length_table rows) in
     at_drop_more F (table_of rows) i vacant m ∙ ap (λ s. F (s ∷ drop (i + 1) (table_of rows))) (getD_table rows i d vacant l)
 
-pub left_all : {Y : Type 0} (F : Table → Y) (rows : List Row) (i : ℕ) → length rows ≤ i → F (drop i (table_of rows)) ≡ F []
-left_all F rows i l = at_drop_all F (table_of rows) i (omega (arith, length_table rows))
-
--- the virtual time of a place that is inside, read from its row
-pub times_read : (rows : List Row) (d : Row) (o : Option ℕ) → length rows ≡ 64 → IfSome o (λ i. i < 64) →
-    option_map (λ i. (get_or rows i d).virtual_time) o ≡ option_map (λ i. (at (table_of rows) i).virtual_time) o
-times_read rows d None n h = refl
-times_read rows d (Some i) n h = ap (λ (s : Session). Some s.virtual_time) (sym (at_table rows i d (omega arith)))
+-- the virtual time of a place, read from its row
+pub times_read : (rows : List Row) (d : Row) (o : Option Place) → length rows ≡ 64 →
+    option_map (λ (p : Place). (get_or rows p.number d).virtual_time) o ≡ option_map (λ i. (at (table_of rows) i).virtual_time) (numbers o)
+times_read rows d None n = refl
+times_read rows d (Some p) n = ap (λ (s : Session). Some s.virtual_time) (sym (at_table rows p.number d (omega (arith, p.inside))))

@@ -1,49 +1,46 @@
 // The two lists from which a chooser picks.
-ghost use Rattle.std.specs.Prelude.{◌≡◌};
-ghost use Rattle.model.specs.Lists.{in_list, stayed};
+ghost use Rattle.std.specs.Prelude.{◌≡◌, ◌<◌, false, slice_index_or};
+ghost use Rattle.model.specs.Lists.{in_line, in_list, stayed};
+ghost use Rattle.model.specs.Table.{at};
+ghost use Rattle.session.specs.Seen.{stay};
 ghost use Rattle.table.specs.Joiners.{any_joins};
 ghost use Rattle.table.specs.Places.{table_of};
 
 use chooser::{Entry, Line};
 use session::Row;
-use tariff::LINK;
+use std::array;
 
 // Who stands in a list, place by place.
+#[tactic(auto, using(crate::proofs::Tables::at_table))]
 pub fn members(rows: &[Row; 64], line: Line) -> [bool; 64]
     ensures { result ≡ in_list line (table_of rows.now) }
 {
-    let mut is = [false; 64];
-    for place in 0..64usize {
-        is[place] = rows[place].stands_in(line);
-    }
-    is
+    array::from_fn(
+        |i|
+            requires { i < 64 }
+            ensures { result ≡ in_line line (at (table_of rows.entry.now) i) }
+        { rows[i].stands_in(line) },
+    )
 }
 
 // Whether a place is in a list now that was not.
 pub fn anybody_joined(rows: &[Row; 64], line: Line, before: &[bool; 64]) -> bool
     ensures { result ≡ any_joins line before.now (table_of rows.now) }
 {
-    for k in 0..64usize {
-        if !before[k] & rows[k].stands_in(line) {
-            return true;
-        }
-    }
-    false
+    rows.iter()
+        .zip(before)
+        .any(|(row, stood)| !stood && row.stands_in(line))
 }
 
 // What an offer says of those who stood in a list before and still do.
-pub fn stayed(rows: &[Row; 64], line: Line, before: &[bool; 64]) -> [Entry; 64]
+#[tactic(auto, using(crate::proofs::Tables::at_table))]
+pub fn stayed(rows: &[Row; 64], line: Line, before: &[bool; 64]) -> [Option<Entry>; 64]
     ensures { result ≡ stayed line before.now (table_of rows.now) }
 {
-    let idle = Entry {
-        offered: false,
-        lag: 0,
-        rate: 1,
-        price: LINK,
-    };
-    let mut entries = [idle; 64];
-    for i in 0..64usize {
-        entries[i] = rows[i].stays(line, before[i]);
-    }
-    entries
+    array::from_fn(
+        |place|
+            requires { place < 64 }
+            ensures { result ≡ stay line (slice_index_or before.entry.now place false) (at (table_of rows.entry.now) place) }
+        { rows[place].stays(line, before[place]) },
+    )
 }

@@ -6,12 +6,9 @@ ghost use Rattle.table.specs.Places.{table_of};
 use session::Row;
 
 // The rates of all open places. 64 rates of 32 bits cannot pass 64 bits.
+#[tactic(auto, using(crate::proofs::Chains::total_of))]
 pub fn booked_total(rows: &[Row; 64]) -> u64
     ensures { result ≡ booked_total (table_of rows.now) }
 {
-    let mut sum = 0;
-    for i in 0..64usize {
-        sum += u64::from(rows[i].rate);
-    }
-    sum
+    rows.iter().map(|row| u64::from(row.rate)).sum()
 }

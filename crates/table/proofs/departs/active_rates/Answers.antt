@@ -1,20 +1,9 @@
-use Rattle.std.proofs.Common.{arith}
-use Rattle.model.specs.Departures.{active_rate}
-use Rattle.model.specs.Table.{total}
-use Rattle.table.proofs.Tables.{left_more, left_all}
+use Rattle.std.proofs.Common.{rules, tests, arith}
+use Rattle.std.proofs.lemmas.Iterator.{YieldsList-from_slice}
+use Rattle.std.proofs.lemmas.Iterator.Adapters.{fits_from_length, at_most_from_yields_List}
 use Rattle.table.proofs.departs.active_rates.Goals as goal
 
-pub overflow_add-sum : goal.overflow_add-sum
-overflow_add-sum c = omega (arith, c.loop-row.invariant.1, c.active_rate-sum.ensures.most)
-
-pub loop-row-preserved : goal.loop-row-preserved
-unfolding total
-loop-row-preserved c =
-    let left = left_more (total active_rate) c.args.rows.now c.loop-row.row-index c.row-item.result (omega arith) in
-    (omega (arith, left, c.loop-row.invariant.0, c.active_rate-sum.ensures.is), omega (arith, c.loop-row.invariant.1, c.active_rate-sum.ensures.most))
-
-pub returns : goal.returns
-unfolding total
-returns c =
-    let left = left_all (total active_rate) c.args.rows.now c.loop-row.row-index (omega arith) in
-    omega (arith, left, c.loop-row.invariant.0)
+pub sum-requires-clause-fits : goal.sum-requires-clause-fits
+sum-requires-clause-fits c =
+    fits_from_length _ _ 64 _ (at_most_from_yields_List (YieldsList-from_slice c.args.rows.now cc) (omega (arith, c.told-rows))) c.map.ensures.closure (omega arith)
+    (λ x r q k. search (rules, tests))

@@ -1,23 +1,18 @@
-use Rattle.std.proofs.Common.{sym, ap, ◌∙◌, arith, below_more}
+use Rattle.std.proofs.Common.{sym, ◌∙◌, rules, tests}
+use Rattle.std.proofs.lemmas.Iterator.{YieldsList-from_slice}
+use Rattle.std.proofs.lemmas.Iterator.Search.{position_from_yields_List}
 use Rattle.model.specs.Departures.{departing}
+use Rattle.session.specs.Seen.{seen}
+use Rattle.session.specs.declared.row.Row.{Row}
+use Rattle.table.proofs.Chains.{first_of, first_inside}
+use Rattle.table.proofs.Numbers.{placed}
+use Rattle.table.proofs.Tables.{length_table}
 use Rattle.table.specs.Places.{table_of}
-use Rattle.table.proofs.Tables.{length_table, at_table}
-use Rattle.table.proofs.Walks.{first_is, first_is_none}
 use Rattle.table.proofs.departs.first_to_depart.Goals as goal
-
-pub returns-then-departs : goal.returns-then-departs
-returns-then-departs c =
-    let rows = c.args.rows.now in
-    let place = c.loop-place.place in
-    let here = ap departing (at_table rows place c.index-rows-place.result (omega arith)) ∙ sym c.if-departs.ensures in
-    sym (first_is departing (table_of rows) place (omega (arith, length_table rows)) here c.loop-place.invariant)
-
-pub loop-place-preserved : goal.loop-place-preserved
-loop-place-preserved c =
-    let here = at_table c.args.rows.now c.loop-place.place c.index-rows-place.result (omega arith) in
-    below_more _ _ c.loop-place.invariant (ap departing here ∙ sym c.if-departs.ensures)
 
 pub returns : goal.returns
 returns c =
     let rows = c.args.rows.now in
-    sym (first_is_none departing (table_of rows) (λ j m. c.loop-place.invariant j (omega (arith, m, length_table rows))))
+    let stops = position_from_yields_List (λ (r : Row). departing (seen r)) _ _ _ c.position.ensures.ran (YieldsList-from_slice rows cc) (λ x b q k. search (rules, tests)) in
+    let found = stops ∙ sym (first_of departing rows) in
+    placed c.position.result c.and_then.result (first_inside departing (table_of rows) c.position.result (length_table rows ∙ c.told-rows) found) c.and_then.ensures ∙ found

@@ -1,33 +1,27 @@
-use Rattle.std.proofs.Common.{◌≡◌, false, length, get_or, sym, ap, ◌∙◌, arith}
-use Rattle.std.proofs.lemmas.List.{length-set}
-use Rattle.chooser.specs.Offers.{idle}
-use Rattle.model.specs.Lists.{stayed}
-use Rattle.session.specs.Seen.{seen, stay}
+use Rattle.std.proofs.Common.{◌≡◌, ℕ, ◌<◌, false, Option, length, get_or, sym, ap, ◌∙◌, rules, arith}
+use Rattle.std.proofs.lemmas.List.{same_lists}
+use Rattle.chooser.proofs.Made.{made_at}
+use Rattle.model.proofs.Tables.{at_is}
+use Rattle.model.specs.Lists.{Entry, stayed}
+use Rattle.model.specs.Session.{vacant}
+use Rattle.model.specs.Table.{at}
+use Rattle.session.specs.Seen.{stay}
 use Rattle.table.specs.Places.{table_of}
-use Rattle.table.proofs.Built.{built_more, built_all}
 use Rattle.table.proofs.Offering.{length_stayed, getD_stayed}
-use Rattle.table.proofs.Tables.{length_table, getD_table}
+use Rattle.table.proofs.Tables.{length_table}
 use Rattle.table.proofs.lists.stayed.Goals as goal
-
-pub loop-i-preserved : goal.loop-i-preserved
-loop-i-preserved c =
-    let rows = c.args.rows.now in
-    let line = c.args.line in
-    let before = c.args.before.now in
-    let i = c.loop-i.i in
-    let d = c.index-rows-i.result in
-    let same : length before ≡ length (table_of rows) = omega (arith, length_table rows) in
-    let long = length_stayed line before (table_of rows) same in (
-      simp length-set c.loop-i.invariant.0,
-      built_more c.loop-i.entries (stayed line before (table_of rows)) i _ idle (omega arith) (omega (arith, long)) c.loop-i.invariant.1
-          (c.stays.ensures ∙ sym (getD_stayed line before (table_of rows) i idle false (seen d) same (omega arith)
-          ∙ ap (stay line (get_or before i false)) (getD_table rows i d (seen d) (omega arith)))),
-    )
 
 pub returns : goal.returns
 returns c =
-    let rows = c.args.rows.now in
+    let line = c.args.line in
     let before = c.args.before.now in
-    let same : length before ≡ length (table_of rows) = omega (arith, length_table rows) in
-    built_all c.loop-i.entries (stayed c.args.line before (table_of rows)) c.loop-i.i (omega arith)
-    (omega (arith, length_stayed c.args.line before (table_of rows) same)) c.loop-i.invariant.1
+    let t = table_of c.args.rows.now in
+    let made = c.from_fn.ensures.items in
+    let at_place : ℕ → Option Entry = λ k. stay line (get_or before k false) (at t k) in
+    let same : length before ≡ length t = omega (arith, length_table c.args.rows.now, c.told-rows, c.told-before) in
+    same_lists c.from_fn.result (stayed line before t) (omega (arith, made.long, length_stayed line before t same, c.told-before))
+    (λ k d l.
+    let h : k < 64 = omega (arith, made.long) in
+    made_at _ _ c.from_fn.result at_place 64 (λ k l y q call. search rules) made k d h
+    ∙ ap (stay line (get_or before k false)) (at_is t k)
+    ∙ sym (getD_stayed line before t k d false vacant same (omega (arith, c.told-before))))

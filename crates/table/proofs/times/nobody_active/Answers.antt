@@ -1,22 +1,12 @@
-use Rattle.std.proofs.Common.{sym, ap, ◌∙◌, arith, below_more}
-use Rattle.model.specs.Session.{Session}
-use Rattle.table.specs.Places.{table_of}
-use Rattle.table.proofs.Dues.{one_active, all_idle}
-use Rattle.table.proofs.Tables.{length_table, at_table}
+use Rattle.std.proofs.Common.{sym, ap, not, ◌∙◌, rules, tests}
+use Rattle.std.proofs.lemmas.Iterator.{YieldsList-from_slice}
+use Rattle.std.proofs.lemmas.Iterator.Search.{any_from_yields_List}
+use Rattle.session.specs.declared.row.Row.{Row}
+use Rattle.table.proofs.Chains.{idle_of}
 use Rattle.table.proofs.times.nobody_active.Goals as goal
-
-pub returns-then-rows-k : goal.returns-then-rows-k
-returns-then-rows-k c =
-    let rows = c.args.rows.now in
-    let here = at_table rows c.loop-k.k c.index-rows-k.result (omega arith) in
-    sym (one_active (table_of rows) c.loop-k.k (ap (λ (s : Session). s.active) here ∙ c.if-rows-k.true))
-
-pub loop-k-preserved : goal.loop-k-preserved
-loop-k-preserved c =
-    let here = at_table c.args.rows.now c.loop-k.k c.index-rows-k.result (omega arith) in
-    below_more _ _ c.loop-k.invariant (ap (λ (s : Session). s.active) here ∙ c.if-rows-k.false)
 
 pub returns : goal.returns
 returns c =
     let rows = c.args.rows.now in
-    sym (all_idle (table_of rows) (λ j m. c.loop-k.invariant j (omega (arith, m, length_table rows))))
+    let finds = any_from_yields_List (λ (r : Row). r.active) _ _ c.any.result c.any.ensures.ran (YieldsList-from_slice rows cc) (λ x b q k. search (rules, tests)) in
+    ap not finds ∙ sym (idle_of rows)

@@ -12,9 +12,9 @@ invariant_of-result g c =
     let b = new_sound c.args.keep c.args.chooser (omega (arith, c.if-keep-gt-QUARTERS.false)) in
     record { ordered = subst (λ (t : Table). InOrder c.args.keep 0 0 t) (sym e) ∣ b ∣₁ }
 
-pub returns : goal.returns
-returns g c =
+pub returns-clause-made : goal.returns-clause-made
+returns-clause-made g c =
     let e = table_vacant 64 c.vacant-vacant.result c.vacant-vacant.ensures in
     let few = le-leb c.args.keep 4 (omega (arith, c.if-keep-gt-QUARTERS.false)) in
     let made = λ (t : Table). Ok (record { keep = c.args.keep; mark = 0; turns = 0; table = t; chooser = c.args.chooser }) in
-    record { made = ap made e ∙ sym (cond-true _ _ _ few); back = tt }
+    ap made e ∙ sym (cond-true _ _ _ few)

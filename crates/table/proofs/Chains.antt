@@ -1,0 +1,72 @@
+-- What the model says of a table is what the library says of a chain over its rows.
+use Rattle.std.proofs.Common.{◌≡◌, ℕ, ◌+◌, ◌<◌, max, Bool, true, false, cond, not, ◌&&◌, ◌||◌, List, [], ◌∷◌, length, IfSome, Some, None, Option, refl, sym, ap, ◌∙◌, arith}
+use Rattle.std.proofs.lemmas.Iterator.Adapters.{position_from-zero}
+use Rattle.std.proofs.lemmas.List.Recursion.{is_sum_by}
+use Rattle.std.specs.List.{fold, sum_by, list_any, position, position_from, zip}
+use Rattle.std.specs.Option.{option_map}
+use Rattle.model.proofs.Tables.{first_found}
+use Rattle.model.specs.Lists.{Line, in_line}
+use Rattle.model.specs.Session.{Session}
+use Rattle.model.specs.Table.{Table, first, next, total, least, sooner, greatest, is_none, none_active}
+use Rattle.session.specs.Seen.{seen}
+use Rattle.session.specs.declared.row.Row.{Row}
+use Rattle.table.specs.Joiners.{any_joins}
+use Rattle.table.specs.Places.{table_of}
+
+pub total_of : (g : Session → ℕ) (rows : List Row) → total g (table_of rows) ≡ sum_by (λ r. g (seen r)) rows
+unfolding table_of total
+total_of g rows = is_sum_by (λ rows. total g (table_of rows)) (λ r. g (seen r)) refl (λ _ _. refl) rows
+
+-- ---- the largest
+
+greatest_from : (rows : List Row) (n : ℕ) → max n (greatest (table_of rows)) ≡ fold (λ (m : ℕ) (r : Row). max m r.virtual_time) n rows
+unfolding table_of greatest
+greatest_from [] n = omega arith
+greatest_from (r ∷ rows) n = omega (arith, greatest_from rows (max n r.virtual_time))
+
+pub greatest_of : (rows : List Row) → greatest (table_of rows) ≡ fold (λ (m : ℕ) (r : Row). max m r.virtual_time) 0 rows
+greatest_of rows = omega (arith, greatest_from rows 0)
+
+-- ---- the first that passes a test
+
+module _ (p : Session → Bool) where
+  one_on : (b : Bool) (i : ℕ) (o : Option ℕ) → cond b (Some i) (option_map (λ k. i + 1 + k) o) ≡ option_map (λ k. i + k) (cond b (Some 0) (next o))
+  one_on true i o = ap Some (omega arith)
+  one_on false i None = refl
+  one_on false i (Some k) = ap Some (omega arith)
+
+  first_from : (rows : List Row) (i : ℕ) → position_from (λ r. p (seen r)) i rows ≡ option_map (λ k. i + k) (first p (table_of rows))
+  unfolding table_of first
+  first_from [] i = refl
+  first_from (r ∷ rows) i =
+      ap (λ (o : Option ℕ). cond (p (seen r)) (Some i) o) (first_from rows (i + 1)) ∙ one_on (p (seen r)) i (first p (table_of rows))
+
+  from_zero : (o : Option ℕ) → option_map (λ k. 0 + k) o ≡ o
+  from_zero None = refl
+  from_zero (Some k) = ap Some (omega arith)
+
+  pub first_of : (rows : List Row) → first p (table_of rows) ≡ position (λ r. p (seen r)) rows
+  first_of rows = sym (position_from-zero (λ r. p (seen r)) rows ∙ first_from rows 0 ∙ from_zero (first p (table_of rows)))
+
+  pub first_inside : (t : Table) (o : Option ℕ) → length t ≡ 64 → o ≡ first p t → IfSome o (λ k. k < 64)
+  first_inside t None n e = tt
+  first_inside t (Some k) n e = omega (arith, (first_found p t k (sym e)).0)
+
+-- ---- whether one passes a test
+
+sooner_is_none : (b : Bool) (v : ℕ) (o : Option ℕ) (any : Bool) → is_none o ≡ not any → is_none (sooner b v o) ≡ not (b || any)
+sooner_is_none true v None any e = refl
+sooner_is_none true v (Some w) any e = refl
+sooner_is_none false v o any e = e
+
+pub idle_of : (rows : List Row) → none_active (table_of rows) ≡ not (list_any (λ (r : Row). r.active) rows)
+unfolding table_of least
+idle_of [] = refl
+idle_of (r ∷ rows) = sooner_is_none r.active r.virtual_time (least (table_of rows)) _ (idle_of rows)
+
+pub joins_of : (l : Line) (rows : List Row) (before : List Bool) → any_joins l before (table_of rows) ≡ list_any (λ (p : Row × Bool). not p.1 && in_line l (seen p.0)) (zip rows before)
+unfolding table_of any_joins
+joins_of l [] [] = refl
+joins_of l [] (b ∷ before) = refl
+joins_of l (r ∷ rows) [] = refl
+joins_of l (r ∷ rows) (b ∷ before) = ap (λ (any : Bool). (not b && in_line l (seen r)) || any) (joins_of l rows before)
