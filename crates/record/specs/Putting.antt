@@ -1,5 +1,5 @@
--- A line while it is made: text goes to its end, and what has no room in 64 bytes is cut off. No line is so long.
-use Rattle.std.specs.Prelude.{ℕ, List, ◌++◌, take}
+-- A line while it is made: a text goes to its end, where there is room for it in 64 bytes. No line is so long.
+use Rattle.std.specs.Prelude.{◌≡◌, ℕ, ◌+◌, ◌≤◌, List, ◌++◌, length}
 
-unfoldable pub appended : List ℕ → List ℕ → List ℕ
-appended line text = take 64 (line ++ text)
+pub record Appends (line text now : List ℕ) : Type 0 where
+  pub holds : length line + length text ≤ 64 → now ≡ line ++ text

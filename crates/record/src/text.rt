@@ -1,8 +1,8 @@
-// A line as it is made.
+// A line as it is made. Tried with `Display` and `write!`: no contract of std says that a `fmt` answers Ok, as a line has to.
 ghost use Rattle.std.specs.Prelude.{◌≡◌, ℕ, ◌<◌, ◌≤◌, List, [], ◌++◌, IfOk, Some, codes, length, take};
 ghost use Rattle.record.specs.Layout.{contents};
 ghost use Rattle.record.specs.Lines.{fault_text, head_text, line_text, lining, newline, refusal_text, result_text, sent_text, turn_text};
-ghost use Rattle.record.specs.Putting.{appended};
+ghost use Rattle.record.specs.Putting.{Appends};
 ghost use Rattle.record.specs.Writing.{after as buffer_after};
 
 use crate::event::Event;
@@ -13,7 +13,7 @@ use std::marker::Model;
 // The room that the longest line has.
 pub const LINE: usize = 64;
 
-// The text so far. What has no room is cut off.
+// The text so far. What has no room is left out, and no line is so long.
 #[derive(Drop)]
 pub(crate) struct Text {
     bytes: [u8; LINE],
@@ -34,9 +34,10 @@ impl Text {
         ensures text { result ≡ line_text number (contents event.entry) res }
         ensures short { length (line_text number (contents event.entry) res) < 64 }
     {
+        let parts = event.parts();
         let mut text = Text::new();
-        text.push_head(number, u8::from(event.letter()), res);
-        text.push_note(event.note());
+        text.push_head(number, u8::from(parts.letter), res);
+        text.push_note(parts.note);
         text
     }
 
@@ -74,23 +75,24 @@ impl Text {
     }
 
     fn push(&mut self, more: &[u8])
-        ensures { self.new ≡ appended self.old more.now }
+        ensures { Appends self.old more.now self.new }
     {
-        let fitting = &more[..more.len().min(LINE - self.len)];
-        let end = self.len + fitting.len();
-        self.bytes[self.len..end].copy_from_slice(fitting);
-        self.len = end;
+        let end = self.len + more.len();
+        if end <= LINE {
+            self.bytes[self.len..end].copy_from_slice(more);
+            self.len = end;
+        }
     }
 
     fn push_number<N: Integer>(&mut self, n: N)
-        ensures text { self.new ≡ appended self.old (N.text n) }
+        ensures text { Appends self.old (N.text n) self.new }
         ensures short { length (N.text n) ≤ N.MAX_STR_LEN }
     {
         self.push(Buffer::new().format(n).as_bytes());
     }
 
     fn push_frame(&mut self, frame: Sent)
-        ensures text { self.new ≡ appended self.old (sent_text (Some frame)) }
+        ensures text { Appends self.old (sent_text (Some frame)) self.new }
         ensures short { length (sent_text (Some frame)) ≤ 14 }
     {
         self.push_number(frame.sender);
@@ -99,7 +101,7 @@ impl Text {
     }
 
     fn push_sent(&mut self, sent: Option<Sent>)
-        ensures text { self.new ≡ appended self.old (sent_text sent) }
+        ensures text { Appends self.old (sent_text sent) self.new }
         ensures short { length (sent_text sent) ≤ 14 }
     {
         match sent {
@@ -109,7 +111,7 @@ impl Text {
     }
 
     fn push_turn(&mut self, turn: Turn)
-        ensures text { self.new ≡ appended self.old (turn_text turn) }
+        ensures text { Appends self.old (turn_text turn) self.new }
         ensures short { length (turn_text turn) ≤ 26 }
     {
         self.push_number(turn.chosen);
@@ -121,7 +123,7 @@ impl Text {
     }
 
     fn push_refusal(&mut self, why: Refusal)
-        ensures text { self.new ≡ appended self.old (refusal_text why) }
+        ensures text { Appends self.old (refusal_text why) self.new }
         ensures short { length (refusal_text why) ≤ 4 }
     {
         self.push(b"E");
@@ -129,7 +131,7 @@ impl Text {
     }
 
     fn push_result(&mut self, res: Result<Answer, Refusal>)
-        ensures text { self.new ≡ appended self.old (result_text res) }
+        ensures text { Appends self.old (result_text res) self.new }
         ensures short { length (result_text res) ≤ 26 }
     {
         match res {
@@ -141,7 +143,7 @@ impl Text {
 
     // Number, letter and result.
     fn push_head(&mut self, number: u64, letter: u8, res: Result<Answer, Refusal>)
-        ensures text { self.new ≡ appended self.old (head_text number letter res) }
+        ensures text { Appends self.old (head_text number letter res) self.new }
         ensures short { length (head_text number letter res) ≤ 49 }
     {
         self.push_number(number);
@@ -151,7 +153,7 @@ impl Text {
 
     // A space, the note's first eight bytes and a newline.
     fn push_note(&mut self, note: &[u8])
-        ensures text { self.new ≡ appended self.old (codes " " ++ (take 8 note.now ++ newline)) }
+        ensures text { Appends self.old (codes " " ++ (take 8 note.now ++ newline)) self.new }
         ensures short { length (codes " " ++ (take 8 note.now ++ newline)) ≤ 10 }
     {
         self.push(b" ");

@@ -7,6 +7,6 @@ pub returns : goal.returns
 returns c =
     let short : length (fault_text c.args.number c.args.why) < 64 = both_short _ newline c.push_head.ensures.short (omega arith) in
     record {
-      text = whole _ c.new-text.ensures (and_then _ _ _ c.push_head.ensures.text c.push.ensures) short;
+      text = whole c.new-text.ensures (and_then c.push_head.ensures.text c.push.ensures) short;
       short = short;
     }
