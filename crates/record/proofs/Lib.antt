@@ -1,6 +1,5 @@
-pub mod Apart
-pub mod Scan
 pub mod Numbers
 pub mod Parsing
 pub mod Trips
-pub mod Pasting
+pub mod Putting
+pub mod Finding

@@ -1,6 +1,5 @@
 -- Numbers of several bytes, the lowest first.
-use Rattle.std.proofs.Common.{◌≡◌, ℕ, zero, suc, ◌+◌, ◌*◌, ◌/◌, ◌%◌, ◌^◌, ◌<◌, ◌≤◌, List, [], ◌∷◌, length, get_or, take, drop, sym, refl, ap, ◌∙◌, pow-suc, arith}
-use native.Mathlib.Nat.{div-div-eq-div-mul}
+use Rattle.std.proofs.Common.{◌≡◌, ℕ, zero, suc, ◌+◌, ◌*◌, ◌/◌, ◌%◌, ◌^◌, ◌<◌, ◌≤◌, List, [], ◌∷◌, length, get_or, take, drop, refl, ap, ◌∙◌, pow-suc, arith}
 use Rattle.std.proofs.lemmas.List.{drop_more}
 use Rattle.record.specs.Layout.{little, spread, length_in, value_in}
 
@@ -21,13 +20,6 @@ little_spread (suc k) n h =
     let small : n < 256 ^ k * 256 = rw pow-suc at h in
     let rest = little_spread k (n / 256) (omega arith) in
     omega arith
-
--- the bytes of a value as they are computed, by one division each
-pub spread_four : (n : ℕ) → (n % 256 ∷ n / 256 % 256 ∷ n / 65536 % 256 ∷ n / 16777216 % 256 ∷ []) ≡ spread 4 n
-spread_four n =
-    let two : n / 65536 ≡ n / 256 / 256 = sym (div-div-eq-div-mul n 256 256) in
-    let three : n / 16777216 ≡ n / 256 / 256 / 256 = sym (div-div-eq-div-mul n 65536 256) ∙ ap (λ (m : ℕ). m / 256) two in
-    λ i. n % 256 ∷ n / 256 % 256 ∷ two i % 256 ∷ three i % 256 ∷ []
 
 -- the numbers that stand in a list, byte by byte
 little_more : (bs : List ℕ) (i k : ℕ) → i < length bs → little (take (suc k) (drop i bs)) ≡ get_or bs i 0 + 256 * little (take k (drop (i + 1) bs))

@@ -1,44 +1,25 @@
 -- Sixteen bytes that pass the checks, letter by letter.
-use Rattle.std.proofs.Common.{◌≡◌, ℕ, zero, suc, ◌+◌, ◌-◌, ◌<◌, ◌≤◌, false, ◌||◌, ltb, List, [], ◌∷◌, length, get_or, drop, Some, None, Ok, Option, Result, sym, refl, ap, ◌∙◌, inl, inr, arith, length-drop, length-take, get_or-drop, get_or-take}
+use Rattle.std.proofs.Common.{◌≡◌, ℕ, zero, suc, ◌+◌, ◌-◌, ◌<◌, ◌≤◌, List, [], ◌∷◌, length, get_or, drop, Some, None, Ok, Option, Result, sym, refl, ap, ◌∙◌, arith, length-drop, length-take, get_or-drop, get_or-take}
 use Rattle.std.specs.List.{between}
-use Rattle.std.proofs.lemmas.Bool.{cases_Bool, cond-true, cond-false}
 use Rattle.std.proofs.lemmas.Bool.Decides.{nat_tests}
 use Rattle.answer.specs.declared.fault.Fault.{Fault}
 use Rattle.answer.specs.declared.refusal.Refusal.TheVariants.{UnusedByteNotZero, NoteNotPrintable}
 use Rattle.record.specs.declared.letter.Letter.{Letter}
 use Rattle.record.specs.declared.letter.Letter.TheVariants.{O, C, A, G, B, T}
 use Rattle.record.specs.Letters.{letter_of}
-use Rattle.record.specs.Layout.{Contents, saying, unused, decoded, place_in, length_in, value_in, note_in}
+use Rattle.record.specs.Layout.{Contents, from_to, saying, unused, used, decoded, place_in, length_in, value_in, note_in}
 use Rattle.record.specs.Reading.{first_outside, first_not_zero, first_unprintable, unless, parsed, parsed_as}
-use Rattle.record.proofs.Apart.{some≢none}
 use Rattle.record.proofs.Numbers.{length_is, value_is}
-
-passed : (low high i b : ℕ) (bs : List ℕ) → first_outside low high i (b ∷ bs) ≡ None
-    → ((ltb b low || ltb high b) ≡ false) × (first_outside low high (i + 1) bs ≡ None)
-passed low high i b bs e =
-    elim (cases_Bool (ltb b low || ltb high b)) [
-      | inl t ↦ some≢none (sym (cond-true _ _ _ t) ∙ e)
-      | inr f ↦ (f, sym (cond-false _ _ _ f) ∙ e)
-    ]
 
 -- where no byte lies outside a range, each is in it
 pub each_inside : (low high i : ℕ) (bs : List ℕ) → first_outside low high i bs ≡ None → (k : ℕ) → k < length bs
     → (low ≤ get_or bs k 0) × (get_or bs k 0 ≤ high)
 each_inside low high i [] e k h = absurd (omega arith)
-each_inside low high i (b ∷ bs) e zero h = let f = (passed low high i b bs e).0 in (grind (arith, nat_tests), grind (arith, nat_tests))
-each_inside low high i (b ∷ bs) e (suc k) h = each_inside low high (i + 1) bs (passed low high i b bs e).1 k (omega arith)
-
--- what an event of a letter takes over of the parts of a record
-abbrev pub used : Letter → ℕ → ℕ → ℕ → List ℕ → Contents
-used O p n v t = saying O p 0 v t
-used C p n v t = saying C p 0 0 t
-used A p n v t = saying A p n v t
-used G p n v t = saying G p 0 0 t
-used B p n v t = saying B p 0 0 t
-used T p n v t = saying T 0 0 0 t
+each_inside low high i (b ∷ bs) e zero h = grind (arith, nat_tests)
+each_inside low high i (b ∷ bs) e (suc k) h = grind (arith, nat_tests, each_inside low high (i + 1) bs)
 
 module _ (bs : List ℕ) (sixteen : length bs ≡ 16) where
-  zero_at : (from to : ℕ) → to ≤ 16 → first_not_zero (from, to) bs ≡ None → (k : ℕ) → from ≤ k → k < to → get_or bs k 0 ≡ 0
+  zero_at : (from to : ℕ) → to ≤ 16 → first_not_zero (from_to from to) bs ≡ None → (k : ℕ) → from ≤ k → k < to → get_or bs k 0 ≡ 0
   zero_at from to small e k low high =
       let long : length (between from to bs) ≡ to - from = simp (length-take, length-drop) (omega arith) in
       let at = each_inside 0 0 from (between from to bs) e (k - from) (omega arith) in
@@ -46,12 +27,12 @@ module _ (bs : List ℕ) (sixteen : length bs ≡ 16) where
       get_or-take (to - from) (drop from bs) (k - from) 0 (omega arith) ∙ get_or-drop from bs (k - from) 0 ∙ ap (λ (j : ℕ). get_or bs j 0) (omega arith) in
       omega arith
 
-  no_length : (from to : ℕ) → from ≤ 2 → 4 ≤ to → to ≤ 8 → first_not_zero (from, to) bs ≡ None → 0 ≡ length_in bs
+  no_length : (from to : ℕ) → from ≤ 2 → 4 ≤ to → to ≤ 8 → first_not_zero (from_to from to) bs ≡ None → 0 ≡ length_in bs
   no_length from to a b s e =
       let z = zero_at from to (omega arith) e in
       omega (arith, length_is bs (omega arith), z 2 (omega arith) (omega arith), z 3 (omega arith) (omega arith))
 
-  no_value : (from : ℕ) → from ≤ 4 → first_not_zero (from, 8) bs ≡ None → 0 ≡ value_in bs
+  no_value : (from : ℕ) → from ≤ 4 → first_not_zero (from_to from 8) bs ≡ None → 0 ≡ value_in bs
   no_value from a e =
       let z = zero_at from 8 (omega arith) e in
       let four = z 4 (omega arith) (omega arith) in
@@ -60,10 +41,10 @@ module _ (bs : List ℕ) (sixteen : length bs ≡ 16) where
       let seven = z 7 (omega arith) (omega arith) in
       omega (arith, value_is bs (omega arith))
 
-  plain : (l : Letter) → first_not_zero (2, 8) bs ≡ None → saying l (place_in bs) 0 0 (note_in bs) ≡ decoded l bs
+  plain : (l : Letter) → first_not_zero (from_to 2 8) bs ≡ None → saying l (place_in bs) 0 0 (note_in bs) ≡ decoded l bs
   plain l e = λ i. saying l (place_in bs) (no_length 2 8 (omega arith) (omega arith) (omega arith) e i) (no_value 2 (omega arith) e i) (note_in bs)
 
-  pub says : (l : Letter) → first_not_zero (unused l) bs ≡ None → used l (place_in bs) (length_in bs) (value_in bs) (note_in bs) ≡ decoded l bs
+  pub says : (l : Letter) → first_not_zero (unused l) bs ≡ None → used l (decoded l bs) ≡ decoded l bs
   says O e = λ i. saying O (place_in bs) (no_length 2 4 (omega arith) (omega arith) (omega arith) e i) (value_in bs) (note_in bs)
   says C e = plain C e
   says A e = refl

@@ -1,8 +1,10 @@
 -- Writing and reading undo each other.
-use Rattle.std.proofs.Common.{◌≡◌, ℕ, ◌+◌, ◌^◌, ◌<◌, ◌≤◌, true, false, not, eqb, ltb, List, [], ◌∷◌, ◌++◌, length, get_or, take, drop, is_some, Some, None, Ok, Err, Option, Result, sym, refl, ap, ◌∙◌, subst, inl, inr, arith, length-append, length-drop, length-take}
+use Rattle.std.proofs.Common.{◌≡◌, ℕ, ◌+◌, ◌^◌, ◌<◌, ◌≤◌, true, false, ltb, List, [], ◌∷◌, ◌++◌, length, get_or, take, drop, Some, None, Ok, Err, Option, Result, sym, refl, ap, ◌∙◌, subst, arith, length-append, length-drop, length-take}
 use Rattle.std.specs.List.{between}
-use Rattle.std.proofs.lemmas.Bool.{false≢true, cases_Bool, and_parts, eqb-true, ltb-false, cond-true, cond-false, le-ltb, eq-eqb, and_from, cases_lt}
-use Rattle.std.proofs.lemmas.List.{take_at, drop_at, take_all, length-take-le, get_or-take, get_or-drop, get_or_past, take-append-drop, drop-drop, drop_more}
+use Rattle.std.proofs.lemmas.Grind.{common_steps}
+use Rattle.std.proofs.lemmas.Bool.Decides.{nat_tests}
+use Rattle.std.proofs.lemmas.Bool.{cond-true, cond-false, le-ltb}
+use Rattle.std.proofs.lemmas.List.{take_at, drop_at, take_all, length-take-le, get_or-drop, take-append-drop, drop-drop, drop_more}
 use Rattle.answer.specs.declared.fault.Fault.{Fault}
 use Rattle.answer.specs.declared.refusal.Refusal.{Refusal}
 use Rattle.answer.specs.declared.refusal.Refusal.TheVariants.{NoteNotPrintable}
@@ -13,34 +15,20 @@ use Rattle.record.specs.declared.letter.Letter.TheVariants.{O, C, A, G, B, T}
 use Rattle.record.specs.Letters.{among, byte_of, letter_of}
 use Rattle.record.specs.Layout.{Contents, saying, contents, decoded, encoded, little, spread, note_in}
 use Rattle.record.specs.Reading.{first_unprintable, unless, parsed, parsed_as, reading, with_rest}
-use Rattle.record.specs.Writing.{after, is_note, writing, written}
-use Rattle.record.specs.Laws.{ReadsBack, WritesBack}
-use Rattle.record.proofs.Apart.{ok≢err, some≢none}
+use Rattle.record.specs.Writing.{is_note, writing, written}
+use Rattle.record.specs.Laws.{ReadsBack}
 use Rattle.record.proofs.Numbers.{little_spread, spread_little}
 
-none_from : (o : Option ℕ) → not (is_some o) ≡ true → o ≡ None
-none_from None e = refl
-none_from (Some i) e = absurd (false≢true e)
-
 note_parts : (note : List ℕ) → is_note note ≡ true → (length note ≡ 8) × (first_unprintable note ≡ None)
-note_parts note e = let p = and_parts _ _ e in (eqb-true _ _ p.0, none_from _ p.1)
+note_parts note e = grind (arith, nat_tests)
 
 -- where writing is accepted, the note is one and the buffer has room
 accepted : (c : Contents) (out : List ℕ) → writing c out ≡ Ok tt → (is_note c.note ≡ true) × (ltb (length out) 16 ≡ false)
-accepted c out e =
-    elim (cases_Bool (is_note c.note)) [
-      | inl t ↦ elim (cases_Bool (ltb (length out) 16)) [
-        | inl s ↦ ok≢err (sym e ∙ cond-true _ _ _ t ∙ cond-true _ _ _ s)
-        | inr l ↦ (t, l)
-      ]
-      | inr b ↦ ok≢err (sym e ∙ cond-false _ _ _ b)
-    ]
+accepted c out e = grind arith
 
 -- a record is the front of the buffer that it was written into
 pub front_is : (c : Contents) (out : List ℕ) → writing c out ≡ Ok tt → length c.note ≡ 8 → written c out ≡ encoded c ++ drop 16 out
-front_is c out e h =
-    ap (λ (r : Result (Unit {0}) Fault). after r (encoded c) out) e
-    ∙ (let long : length (encoded c) ≡ 16 = omega arith in ap (λ (n : ℕ). encoded c ++ drop n out) long)
+front_is c out e h = grind arith
 
 -- what parses at the front of an input
 front : (number : ℕ) (c : Contents) (bs rest : List ℕ) → length bs ≡ 16 → parsed number bs ≡ Ok c → reading number (bs ++ rest) ≡ Ok (Some (c, rest))
@@ -79,21 +67,14 @@ pub reads_back : (e : Event) (before now : List ℕ) (r : Result (Unit {0}) Faul
 reads_back e before now (Ok u) l v w a = λ number. ap (reading number) a ∙ event_there e before number l v (sym w)
 reads_back e before now (Err f) l v w a = tt
 
-same_letter : (k l : Letter) → ◌≡◌ {A = Option Letter} (Some k) (Some l) → k ≡ l
-same_letter k l e = cc
-
 -- a byte that is a letter is how that letter is written
 spelt : (ls : List Letter) (byte : ℕ) (l : Letter) → among ls byte ≡ Some l → byte_of l ≡ byte
-spelt [] byte l e = some≢none (sym e)
-spelt (k ∷ ls) byte l e =
-    elim (cases_Bool (eqb byte (byte_of k))) [
-      | inl t ↦ (let same : k ≡ l = same_letter k l (sym (cond-true _ _ _ t) ∙ e) in sym (eqb-true _ _ t ∙ ap byte_of same))
-      | inr f ↦ spelt ls byte l (sym (cond-false _ _ _ f) ∙ e)
-    ]
+spelt [] byte l e = cc
+spelt (k ∷ ls) byte l e = grind (arith, nat_tests, spelt ls byte l)
 
 unless_ok : (o : Option ℕ) (why : Refusal) (number : ℕ) (r : Result Contents Fault) (c : Contents) → unless o why number r ≡ Ok c → (o ≡ None) × (r ≡ Ok c)
 unless_ok None why number r c e = (refl, e)
-unless_ok (Some i) why number r c e = ok≢err (sym e)
+unless_ok (Some i) why number r c e = cc
 
 same_ok : (c d : Contents) → ◌≡◌ {A = Result Contents Fault} (Ok c) (Ok d) → c ≡ d
 same_ok c d e = cc
@@ -106,38 +87,17 @@ pub record Parsed (bs : List ℕ) (c : Contents) : Type 0 where
   pub says : decoded letter bs ≡ c
 
 parsed_from : (number : ℕ) (bs : List ℕ) (o : Option Letter) (c : Contents) → letter_of (get_or bs 0 0) ≡ o → parsed_as number bs o ≡ Ok c → Parsed bs c
-parsed_from number bs None c h e = ok≢err (sym e)
+parsed_from number bs None c h e = cc
 parsed_from number bs (Some l) c h e =
     let a = unless_ok _ _ _ _ _ e in
     let b = unless_ok _ _ _ _ _ a.1 in
     record { letter = l; starts = spelt (O ∷ C ∷ A ∷ G ∷ B ∷ T ∷ []) (get_or bs 0 0) l h; clean = b.0; says = same_ok _ c b.1 }
 
-rest_ok : (rest r : List ℕ) (x : Result Contents Fault) (c : Contents) → with_rest rest x ≡ Ok (Some (c, r)) → x ≡ Ok c
-rest_ok rest r (Ok d) c e =
-    let pair : (d, rest) ≡ (c, r) = cc in
-    let same : d ≡ c = ap (λ (q : Contents × List ℕ). q.0) pair in
-    ap (λ (x : Contents). Ok x) same
-rest_ok rest r (Err f) c e = ok≢err (sym e)
-
-was_read : (number : ℕ) (input : List ℕ) (c : Contents) (rest : List ℕ) → reading number input ≡ Ok (Some (c, rest))
-    → (16 ≤ length input) × (parsed number (take 16 input) ≡ Ok c)
-was_read number [] c rest e = let z : ◌≡◌ {A = ℕ} 0 1 = cc in absurd (omega arith)
-was_read number (b ∷ bs) c rest e =
-    elim (cases_Bool (ltb (length (b ∷ bs)) 16)) [
-      | inl s ↦ ok≢err (sym e ∙ cond-true _ _ _ s)
-      | inr l ↦ (ltb-false _ _ l, rest_ok _ rest _ c (sym (cond-false _ _ _ l) ∙ e))
-    ]
-
-abbrev Small : List ℕ → Type 0
+abbrev pub Small : List ℕ → Type 0
 Small bs = (i : ℕ) → get_or bs i 0 < 2 ^ 8
 
 small_take : (n : ℕ) (bs : List ℕ) → Small bs → Small (take n bs)
-small_take n bs h i =
-    elim (cases_lt i n) [
-      | inl k ↦ subst (λ (x : ℕ). x < 2 ^ 8) (sym (get_or-take n bs i 0 k)) (h i)
-      | inr k ↦ (let past : length (take n bs) ≤ i = simp length-take (omega arith) in
-          subst (λ (x : ℕ). x < 2 ^ 8) (sym (get_or_past (take n bs) i 0 past)) (omega arith))
-    ]
+small_take n bs h i = grind (arith, common_steps, h i)
 
 -- the bytes of a part, from the number that they are
 part_again : (bs : List ℕ) (n k : ℕ) → n + k ≤ length bs → Small bs → spread k (little (take k (drop n bs))) ≡ take k (drop n bs)
@@ -162,23 +122,17 @@ again bs l s h t =
     ∙ sym (drop_more bs 0 0 (omega arith))
 
 note_from : (note : List ℕ) → length note ≡ 8 → first_unprintable note ≡ None → is_note note ≡ true
-note_from note h n = and_from _ _ (eq-eqb _ _ h) (ap (λ (o : Option ℕ). not (is_some o)) n)
+note_from note h n = grind arith
 
-write_again : (c : Contents) (input rest out : List ℕ) (number : ℕ) → Small input → reading number input ≡ Ok (Some (c, rest)) → 16 ≤ length out
+pub write_again : (c : Contents) (input out : List ℕ) (number : ℕ) → Small input → 16 ≤ length input → parsed number (take 16 input) ≡ Ok c → 16 ≤ length out
     → (writing c out ≡ Ok tt) × (written c out ≡ take 16 input ++ drop 16 out)
-write_again c input rest out number small e room =
-    let r = was_read number input c rest e in
+write_again c input out number small enough read room =
     let bs : List ℕ = take 16 input in
-    let long : length bs ≡ 16 = length-take-le 16 input r.0 in
-    let p = parsed_from number bs _ c refl r.1 in
+    let long : length bs ≡ 16 = length-take-le 16 input enough in
+    let p = parsed_from number bs _ c refl read in
     let same : encoded c ≡ bs = subst (λ (d : Contents). encoded d ≡ bs) p.says (again bs p.letter p.starts long (small_take 16 input small)) in
-    let eight : length c.note ≡ 8 = subst (λ (d : Contents). length d.note ≡ 8) p.says (simp (length-take, length-drop) (omega arith)) in
-    let clean : first_unprintable c.note ≡ None = subst (λ (d : Contents). first_unprintable d.note ≡ None) p.says p.clean in
+    let note : note_in bs ≡ c.note = ap (λ (d : Contents). d.note) p.says in
+    let eight : length c.note ≡ 8 = subst (λ (l : List ℕ). length l ≡ 8) note (simp (length-take, length-drop) (omega arith)) in
+    let clean : first_unprintable c.note ≡ None = subst (λ (l : List ℕ). first_unprintable l ≡ None) note p.clean in
     let ok : writing c out ≡ Ok tt = cond-true _ _ _ (note_from c.note eight clean) ∙ cond-false _ _ _ (le-ltb _ _ room) in
     (ok, front_is c out ok eight ∙ ap (λ (xs : List ℕ). xs ++ drop 16 out) same)
-
-pub writes_back : (input : List ℕ) (number : ℕ) → ((i : ℕ) → get_or input i 0 < 2 ^ 8) → (x : Result (Option (Contents × List ℕ)) Fault)
-    → x ≡ reading number input → WritesBack input x
-writes_back input number small (Ok (Some x)) e = λ out room. write_again x.0 input x.1 out number small (sym e) room
-writes_back input number small (Ok None) e = tt
-writes_back input number small (Err f) e = tt

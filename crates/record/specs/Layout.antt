@@ -2,10 +2,12 @@
 -- Length and value are little-endian. The value is the rate of an opening, and the tag of an arrival.
 use Rattle.std.specs.Prelude.{ℕ, zero, suc, ◌+◌, ◌*◌, ◌/◌, ◌%◌, List, [], ◌∷◌, ◌++◌, slice_index}
 use Rattle.std.specs.List.{between}
+use Rattle.std.specs.declared.ops.Range.{Range}
 use Rattle.record.specs.declared.event.Event.{Event}
 use Rattle.record.specs.declared.event.Event.TheVariants.{Open, Close, Arrive, Good, Bad, Turn}
 use Rattle.record.specs.declared.letter.Letter.{Letter}
 use Rattle.record.specs.declared.letter.Letter.TheVariants.{O, C, A, G, B, T}
+use Rattle.record.specs.declared.parts.Parts.{Parts}
 use Rattle.record.specs.Letters.{byte_of}
 
 -- the bytes at which the parts begin
@@ -24,14 +26,17 @@ note_at = 8
 abbrev pub record_end : ℕ
 record_end = 16
 
+abbrev pub from_to : ℕ → ℕ → Range ℕ
+from_to a b = record { start = a; end = b }
+
 -- what a letter leaves unused, from one byte up to another: all but T use the place, A alone the length, O and A the value
-abbrev pub unused : Letter → ℕ × ℕ
-unused O = (length_at, value_at)
-unused C = (length_at, note_at)
-unused A = (note_at, note_at)
-unused G = (length_at, note_at)
-unused B = (length_at, note_at)
-unused T = (place_at, note_at)
+abbrev pub unused : Letter → Range ℕ
+unused O = from_to length_at value_at
+unused C = from_to length_at note_at
+unused A = from_to note_at note_at
+unused G = from_to length_at note_at
+unused B = from_to length_at note_at
+unused T = from_to place_at note_at
 
 -- what a record says
 pub record Contents : Type 0 where
@@ -43,6 +48,19 @@ pub record Contents : Type 0 where
 
 abbrev pub saying : Letter → ℕ → ℕ → ℕ → List ℕ → Contents
 saying l p n v t = record { letter = l; place = p; length = n; value = v; note = t }
+
+-- what the code's parts say
+abbrev pub said : Parts → Contents
+said p = saying p.letter p.place p.length p.value p.note.now
+
+-- what an event of a letter takes over of the parts of a record
+abbrev pub used : Letter → Contents → Contents
+used O c = saying O c.place 0 c.value c.note
+used C c = saying C c.place 0 0 c.note
+used A c = saying A c.place c.length c.value c.note
+used G c = saying G c.place 0 0 c.note
+used B c = saying B c.place 0 0 c.note
+used T c = saying T 0 0 0 c.note
 
 -- an event as a record says it, with 0 for what its letter leaves unused
 abbrev pub contents : Event → Contents

@@ -1,8 +1,9 @@
 -- Reading the next record of an input. The faults are looked for in the order of their numbers, and each names the first
 -- byte at which it shows; a record that the input ends in names how many of its bytes are there.
-use Rattle.std.specs.Prelude.{ℕ, ◌+◌, cond, ◌||◌, List, [], ◌∷◌, length, take, drop, Some, None, Ok, Err, Option, Result, nat_lt, slice_index}
+use Rattle.std.specs.Prelude.{ℕ, cond, ◌||◌, List, [], ◌∷◌, length, take, drop, Some, None, Ok, Err, Option, Result, nat_lt, slice_index}
 use Rattle.std.specs.Borrow.{Bor}
-use Rattle.std.specs.List.{between}
+use Rattle.std.specs.List.{between, position_from}
+use Rattle.std.specs.declared.ops.Range.{Range}
 use Rattle.answer.specs.declared.fault.Fault.{Fault}
 use Rattle.answer.specs.declared.fault.Layer.TheVariants.{Record}
 use Rattle.answer.specs.declared.refusal.Refusal.{Refusal}
@@ -18,12 +19,11 @@ fault why number byte = record { refusal = why; layer = Record; «record» = num
 
 -- the first byte outside low to high, where the first of the list is numbered i
 abbrev pub first_outside : ℕ → ℕ → ℕ → List ℕ → Option ℕ
-first_outside low high i [] = None
-first_outside low high i (b ∷ bs) = cond (nat_lt b low || nat_lt high b) (Some i) (first_outside low high (i + 1) bs)
+first_outside low high i bytes = position_from (λ b. nat_lt b low || nat_lt high b) i bytes
 
 -- the first byte of an unused part that is not zero
-abbrev pub first_not_zero : ℕ × ℕ → List ℕ → Option ℕ
-first_not_zero part bytes = first_outside 0 0 part.0 (between part.0 part.1 bytes)
+abbrev pub first_not_zero : Range ℕ → List ℕ → Option ℕ
+first_not_zero part bytes = first_outside 0 0 part.start (between part.start part.end bytes)
 
 -- the first byte of a note that is not printable
 abbrev pub first_unprintable : List ℕ → Option ℕ

@@ -1,8 +1,9 @@
 // What a record says.
 ghost use Rattle.std.specs.Prelude.{◌≡◌};
-ghost use Rattle.record.specs.Layout.{contents};
+ghost use Rattle.record.specs.Layout.{contents, said};
 
 use crate::letter::Letter;
+use crate::parts::Parts;
 
 // The note is a part of the record that was read.
 #[derive(Clone, Copy, Debug)]
@@ -36,30 +37,42 @@ pub enum Event<'a> {
 }
 
 impl<'a> Event<'a> {
+    // The parts of its record.
+    pub(crate) fn parts(self) -> Parts<'a>
+        ensures { said result ≡ contents self.entry }
+    {
+        match self {
+            Event::Open { place, rate, note } => Parts {
+                value: rate,
+                ..Parts::plain(Letter::O, place, note)
+            },
+            Event::Close { place, note } => Parts::plain(Letter::C, place, note),
+            Event::Arrive {
+                place,
+                length,
+                tag,
+                note,
+            } => Parts {
+                length,
+                value: tag,
+                ..Parts::plain(Letter::A, place, note)
+            },
+            Event::Good { place, note } => Parts::plain(Letter::G, place, note),
+            Event::Bad { place, note } => Parts::plain(Letter::B, place, note),
+            Event::Turn { note } => Parts::plain(Letter::T, 0, note),
+        }
+    }
+
     // The letter of its record.
     pub fn letter(self) -> Letter
         ensures { result ≡ (contents self.entry).letter }
     {
-        match self {
-            Event::Open { .. } => Letter::O,
-            Event::Close { .. } => Letter::C,
-            Event::Arrive { .. } => Letter::A,
-            Event::Good { .. } => Letter::G,
-            Event::Bad { .. } => Letter::B,
-            Event::Turn { .. } => Letter::T,
-        }
+        self.parts().letter
     }
 
     pub fn note(self) -> &'a [u8]
         ensures { result.now ≡ (contents self.entry).note }
     {
-        match self {
-            Event::Open { note, .. } => note,
-            Event::Close { note, .. } => note,
-            Event::Arrive { note, .. } => note,
-            Event::Good { note, .. } => note,
-            Event::Bad { note, .. } => note,
-            Event::Turn { note } => note,
-        }
+        self.parts().note
     }
 }

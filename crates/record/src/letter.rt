@@ -1,9 +1,13 @@
 // The letters that records begin with.
 ghost use Rattle.std.specs.Prelude.{◌≡◌};
+ghost use Rattle.std.specs.Option.{ok_or};
+ghost use Rattle.answer.specs.declared.refusal.Refusal.TheVariants.{UnknownLetter};
 ghost use Rattle.record.specs.Letters.{byte_of, letter_of};
 ghost use Rattle.record.specs.Layout.{unused};
 
 use crate::layout::{LENGTH, NOTE, PLACE, VALUE};
+use answer::Refusal;
+use std::ops::Range;
 
 // Opening, closing, arrival, good and bad channel, turn.
 #[derive(Clone, Copy, PartialEq, Eq, Debug)]
@@ -16,27 +20,31 @@ pub enum Letter {
     T,
 }
 
-impl Letter {
-    // The letter that a character is, if it is one of the six.
-    pub fn of(c: char) -> Option<Letter>
-        ensures { result ≡ letter_of c }
-    {
+// The letter that a character is, if it is one of the six.
+impl TryFrom<char> for Letter {
+    type Error = Refusal;
+
+    ghost try_from_gives = { λ c r. r ≡ ok_or (letter_of c) UnknownLetter };
+
+    fn try_from(c: char) -> Result<Letter, Refusal> {
         match c {
-            'O' => Some(Letter::O),
-            'C' => Some(Letter::C),
-            'A' => Some(Letter::A),
-            'G' => Some(Letter::G),
-            'B' => Some(Letter::B),
-            'T' => Some(Letter::T),
-            _ => None,
+            'O' => Ok(Letter::O),
+            'C' => Ok(Letter::C),
+            'A' => Ok(Letter::A),
+            'G' => Ok(Letter::G),
+            'B' => Ok(Letter::B),
+            'T' => Ok(Letter::T),
+            _ => Err(Refusal::UnknownLetter),
         }
     }
+}
 
-    // The byte that it is written as.
-    pub fn byte(self) -> u8
-        ensures { result ≡ byte_of self }
-    {
-        match self {
+// The byte that it is written as.
+impl From<Letter> for u8 {
+    ghost from_gives = { λ letter byte. byte ≡ byte_of letter };
+
+    fn from(letter: Letter) -> u8 {
+        match letter {
             Letter::O => b'O',
             Letter::C => b'C',
             Letter::A => b'A',
@@ -45,16 +53,18 @@ impl Letter {
             Letter::T => b'T',
         }
     }
+}
 
-    // The part of a record that it leaves unused: from which byte on, and up to which.
-    pub(crate) fn unused(self) -> (usize, usize)
+impl Letter {
+    // The part of a record that it leaves unused.
+    pub(crate) fn unused(self) -> Range<usize>
         ensures { result ≡ unused self }
     {
         match self {
-            Letter::O => (LENGTH, VALUE),
-            Letter::A => (NOTE, NOTE),
-            Letter::T => (PLACE, NOTE),
-            Letter::C | Letter::G | Letter::B => (LENGTH, NOTE),
+            Letter::O => LENGTH..VALUE,
+            Letter::A => NOTE..NOTE,
+            Letter::T => PLACE..NOTE,
+            Letter::C | Letter::G | Letter::B => LENGTH..NOTE,
         }
     }
 }

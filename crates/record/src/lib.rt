@@ -5,12 +5,14 @@ mod event;
 mod layout;
 mod letter;
 mod lines;
+mod parts;
 mod reader;
 mod text;
 mod writer;
 
 pub use event::Event;
 pub use letter::Letter;
-pub use lines::{LINE, fault_line, line};
+pub use lines::{fault_line, line};
 pub use reader::read;
+pub use text::LINE;
 pub use writer::write;

@@ -1,15 +1,12 @@
 // The line of each record.
-ghost use Rattle.std.specs.Prelude.{◌≡◌, ◌<◌, length, IfOk};
+ghost use Rattle.std.specs.Prelude.{◌≡◌, ◌<◌, IfOk};
 ghost use Rattle.record.specs.Layout.{contents};
 ghost use Rattle.record.specs.Lines.{fault_text, line_text, lining};
 ghost use Rattle.record.specs.Writing.{after as buffer_after};
 
 use crate::event::Event;
-use crate::text::{put_fault, put_line};
+use crate::text::Text;
 use answer::{Answer, Refusal};
-
-// The room that the longest line has.
-pub const LINE: usize = 64;
 
 // The line of an event and its result into the front of a buffer, and the line's length.
 pub fn line(
@@ -22,10 +19,7 @@ pub fn line(
     ensures after { out.new ≡ buffer_after result (line_text number (contents event.entry) res) out.old }
     ensures short { IfOk result (λ n. n < 64) }
 {
-    if out.len() < LINE {
-        return Err(Refusal::BufferTooShort);
-    }
-    Ok(put_line(out, number, event, res))
+    Text::of_event(number, event, res).store(out)
 }
 
 // The line of a record in which no event was read.
@@ -34,8 +28,5 @@ pub fn fault_line(number: u64, why: Refusal, out: &mut [u8]) -> Result<usize, Re
     ensures after { out.new ≡ buffer_after result (fault_text number why) out.old }
     ensures short { IfOk result (λ n. n < 64) }
 {
-    if out.len() < LINE {
-        return Err(Refusal::BufferTooShort);
-    }
-    Ok(put_fault(out, number, why))
+    Text::of_fault(number, why).store(out)
 }

@@ -1,128 +1,163 @@
-// Text into a buffer, from a place on; each function answers the place after it.
-ghost use Rattle.std.specs.Prelude.{◌≡◌, ◌+◌, ◌≤◌, ◌++◌, length, take, codes, decimal};
+// A line as it is made. Tried with `Display` and `write!`: no contract of std says that a `fmt` answers Ok, as a line has to.
+ghost use Rattle.std.specs.Prelude.{◌≡◌, ℕ, ◌<◌, ◌≤◌, List, [], ◌++◌, IfOk, Some, codes, length, take};
 ghost use Rattle.record.specs.Layout.{contents};
-ghost use Rattle.record.specs.Lines.{fault_text, head_text, line_text, newline, refusal_text, result_text, sent_text, turn_text};
-ghost use Rattle.record.specs.Putting.{Lined, Put};
+ghost use Rattle.record.specs.Lines.{fault_text, head_text, line_text, lining, newline, refusal_text, result_text, sent_text, turn_text};
+ghost use Rattle.record.specs.Putting.{Appends};
+ghost use Rattle.record.specs.Writing.{after as buffer_after};
 
 use crate::event::Event;
 use answer::{Answer, Refusal, Sent, Turn};
+use itoa::{Buffer, Integer};
+use std::marker::Model;
 
-fn put_bytes(out: &mut [u8], at: usize, bytes: &[u8]) -> usize
-    requires { at + length bytes.now ≤ length out.old }
-    ensures { Put out.old at bytes.now out.new result }
-{
-    let end = at + bytes.len();
-    out[at..end].copy_from_slice(bytes);
-    end
+// The room that the longest line has.
+pub const LINE: usize = 64;
+
+// The text so far. What has no room is left out, and no line is so long.
+#[derive(Drop)]
+pub(crate) struct Text {
+    bytes: [u8; LINE],
+    len: usize,
 }
 
-fn put_decimal(out: &mut [u8], at: usize, n: u64) -> usize
-    requires { at + length (decimal n) ≤ length out.old }
-    ensures { Put out.old at (decimal n) out.new result }
-{
-    if n < 10 {
-        put_bytes(out, at, &[b'0' + n as u8])
-    } else {
-        let next = put_decimal(out, at, n / 10);
-        put_bytes(out, next, &[b'0' + (n % 10) as u8])
+impl Model for Text {
+    ghost Value = { List ℕ };
+
+    ghost view = { λ t. take t.len t.bytes };
+
+    ghost invariant = { λ t. t.len ≤ 64 };
+}
+
+impl Text {
+    // The line of an event and its result.
+    pub(crate) fn of_event(number: u64, event: Event, res: Result<Answer, Refusal>) -> Text
+        ensures text { result ≡ line_text number (contents event.entry) res }
+        ensures short { length (line_text number (contents event.entry) res) < 64 }
+    {
+        let parts = event.parts();
+        let mut text = Text::new();
+        text.push_head(number, u8::from(parts.letter), res);
+        text.push_note(parts.note);
+        text
     }
-}
 
-fn put_frame(out: &mut [u8], at: usize, sent: Sent) -> usize
-    requires { at + 14 ≤ length out.old }
-    ensures put { Put out.old at (decimal sent.sender ++ (codes "/" ++ decimal sent.tag)) out.new result }
-    ensures bound { result ≤ at + 14 }
-{
-    let sender = put_decimal(out, at, sent.sender as u64);
-    let slash = put_bytes(out, sender, b"/");
-    put_decimal(out, slash, sent.tag as u64)
-}
-
-fn put_sent(out: &mut [u8], at: usize, sent: Option<Sent>) -> usize
-    requires { at + 14 ≤ length out.old }
-    ensures put { Put out.old at (sent_text sent) out.new result }
-    ensures bound { result ≤ at + 14 }
-{
-    match sent {
-        None => put_bytes(out, at, b"-/-"),
-        Some(frame) => put_frame(out, at, frame),
+    // The line of a record in which no event was read.
+    pub(crate) fn of_fault(number: u64, why: Refusal) -> Text
+        ensures text { result ≡ fault_text number why }
+        ensures short { length (fault_text number why) < 64 }
+    {
+        let mut text = Text::new();
+        text.push_head(number, b'?', Err(why));
+        text.push(b"\n");
+        text
     }
-}
 
-fn put_turn(out: &mut [u8], at: usize, turn: Turn) -> usize
-    requires { at + 26 ≤ length out.old }
-    ensures put { Put out.old at (turn_text turn) out.new result }
-    ensures bound { result ≤ at + 26 }
-{
-    let chosen = put_decimal(out, at, turn.chosen as u64);
-    let first = put_bytes(out, chosen, b"/");
-    let sent = put_sent(out, first, turn.sent);
-    let second = put_bytes(out, sent, b"/");
-    let size = put_decimal(out, second, turn.length as u64);
-    put_bytes(out, size, &[b'/', u8::from(turn.kind)])
-}
-
-fn put_refusal(out: &mut [u8], at: usize, why: Refusal) -> usize
-    requires { at + 26 ≤ length out.old }
-    ensures put { Put out.old at (refusal_text why) out.new result }
-    ensures bound { result ≤ at + 26 }
-{
-    let letter = put_bytes(out, at, b"E");
-    put_decimal(out, letter, why.number() as u64)
-}
-
-fn put_result(out: &mut [u8], at: usize, res: Result<Answer, Refusal>) -> usize
-    requires { at + 26 ≤ length out.old }
-    ensures put { Put out.old at (result_text res) out.new result }
-    ensures bound { result ≤ at + 26 }
-{
-    match res {
-        Ok(Answer::Done) => put_bytes(out, at, b"ok"),
-        Ok(Answer::Turn(turn)) => put_turn(out, at, turn),
-        Err(why) => put_refusal(out, at, why),
+    // Into the front of a buffer that has room for the longest line; the text's length.
+    pub(crate) fn store(&self, out: &mut [u8]) -> Result<usize, Refusal>
+        ensures answer { result ≡ lining self.now out.old }
+        ensures after { out.new ≡ buffer_after result self.now out.old }
+        ensures short { length self.now < 64 → IfOk result (λ n. n < 64) }
+    {
+        if out.len() < LINE {
+            return Err(Refusal::BufferTooShort);
+        }
+        out[..self.len].copy_from_slice(&self.bytes[..self.len]);
+        Ok(self.len)
     }
-}
 
-// Number, letter and result.
-fn put_head(out: &mut [u8], number: u64, letter: u8, res: Result<Answer, Refusal>) -> usize
-    requires { 64 ≤ length out.old }
-    ensures put { Put out.old 0 (head_text number letter res) out.new result }
-    ensures bound { result ≤ 49 }
-{
-    let first = put_decimal(out, 0, number);
-    let second = put_bytes(out, first, &[b' ', letter, b' ']);
-    put_result(out, second, res)
-}
+    fn new() -> Text
+        ensures { result ≡ [] }
+    {
+        Text {
+            bytes: [0; LINE],
+            len: 0,
+        }
+    }
 
-// A space, the note's first eight bytes and a newline.
-fn put_note(out: &mut [u8], at: usize, note: &[u8]) -> usize
-    requires { at + 10 ≤ length out.old }
-    ensures put { Put out.old at (codes " " ++ (take 8 note.now ++ newline)) out.new result }
-    ensures bound { result ≤ at + 10 }
-{
-    let space = put_bytes(out, at, b" ");
-    let shown = note.len().min(8);
-    let end = put_bytes(out, space, &note[0..shown]);
-    put_bytes(out, end, b"\n")
-}
+    fn push(&mut self, more: &[u8])
+        ensures { Appends self.old more.now self.new }
+    {
+        let end = self.len + more.len();
+        if end <= LINE {
+            self.bytes[self.len..end].copy_from_slice(more);
+            self.len = end;
+        }
+    }
 
-pub(crate) fn put_line(
-    out: &mut [u8],
-    number: u64,
-    event: Event,
-    res: Result<Answer, Refusal>,
-) -> usize
-    requires { 64 ≤ length out.old }
-    ensures { Lined out.old (line_text number (contents event.entry) res) out.new result }
-{
-    let head = put_head(out, number, event.letter().byte(), res);
-    put_note(out, head, event.note())
-}
+    fn push_number<N: Integer>(&mut self, n: N)
+        ensures text { Appends self.old (N.text n) self.new }
+        ensures short { length (N.text n) ≤ N.MAX_STR_LEN }
+    {
+        self.push(Buffer::new().format(n).as_bytes());
+    }
 
-pub(crate) fn put_fault(out: &mut [u8], number: u64, why: Refusal) -> usize
-    requires { 64 ≤ length out.old }
-    ensures { Lined out.old (fault_text number why) out.new result }
-{
-    let head = put_head(out, number, b'?', Err(why));
-    put_bytes(out, head, b"\n")
+    fn push_frame(&mut self, frame: Sent)
+        ensures text { Appends self.old (sent_text (Some frame)) self.new }
+        ensures short { length (sent_text (Some frame)) ≤ 14 }
+    {
+        self.push_number(frame.sender);
+        self.push(b"/");
+        self.push_number(frame.tag);
+    }
+
+    fn push_sent(&mut self, sent: Option<Sent>)
+        ensures text { Appends self.old (sent_text sent) self.new }
+        ensures short { length (sent_text sent) ≤ 14 }
+    {
+        match sent {
+            None => self.push(b"-/-"),
+            Some(frame) => self.push_frame(frame),
+        }
+    }
+
+    fn push_turn(&mut self, turn: Turn)
+        ensures text { Appends self.old (turn_text turn) self.new }
+        ensures short { length (turn_text turn) ≤ 26 }
+    {
+        self.push_number(turn.chosen);
+        self.push(b"/");
+        self.push_sent(turn.sent);
+        self.push(b"/");
+        self.push_number(turn.length);
+        self.push(&[b'/', u8::from(turn.kind)]);
+    }
+
+    fn push_refusal(&mut self, why: Refusal)
+        ensures text { Appends self.old (refusal_text why) self.new }
+        ensures short { length (refusal_text why) ≤ 4 }
+    {
+        self.push(b"E");
+        self.push_number(why.number());
+    }
+
+    fn push_result(&mut self, res: Result<Answer, Refusal>)
+        ensures text { Appends self.old (result_text res) self.new }
+        ensures short { length (result_text res) ≤ 26 }
+    {
+        match res {
+            Ok(Answer::Done) => self.push(b"ok"),
+            Ok(Answer::Turn(turn)) => self.push_turn(turn),
+            Err(why) => self.push_refusal(why),
+        }
+    }
+
+    // Number, letter and result.
+    fn push_head(&mut self, number: u64, letter: u8, res: Result<Answer, Refusal>)
+        ensures text { Appends self.old (head_text number letter res) self.new }
+        ensures short { length (head_text number letter res) ≤ 49 }
+    {
+        self.push_number(number);
+        self.push(&[b' ', letter, b' ']);
+        self.push_result(res);
+    }
+
+    // A space, the note's first eight bytes and a newline.
+    fn push_note(&mut self, note: &[u8])
+        ensures text { Appends self.old (codes " " ++ (take 8 note.now ++ newline)) self.new }
+        ensures short { length (codes " " ++ (take 8 note.now ++ newline)) ≤ 10 }
+    {
+        self.push(b" ");
+        self.push(&note[..note.len().min(8)]);
+        self.push(b"\n");
+    }
 }

@@ -1,24 +1,16 @@
-use Rattle.std.proofs.Common.{ap, inl, inr, add-zero, arith}
-use Rattle.record.specs.Reading.{first_outside}
-use Rattle.record.proofs.Scan.{inside, found, none}
+use Rattle.std.proofs.Common.{◌≡◌, ℕ, ◌+◌, Bool, ◌||◌, nat_lt, rules, tests, ap, ◌∙◌}
+use Rattle.std.proofs.lemmas.Iterator.{YieldsList-from_slice}
+use Rattle.std.proofs.lemmas.Iterator.Search.{position_from_yields_List}
+use Rattle.std.specs.Range.{range_inclusive_end, range_inclusive_start}
+use Rattle.std.specs.List.{position}
+use Rattle.std.specs.Option.{option_map}
+use Rattle.record.proofs.Finding.{numbered}
 use Rattle.record.proofs.reader.first_outside.Goals as goal
-use Rattle.record.proofs.reader.first_outside.Goals.{then-b-low-via-then-b-low, then-b-low-via-else-b-low+then-b-high}
-
-pub loop-i-init : goal.loop-i-init
-loop-i-init c = ap (λ k. first_outside c.args.low c.args.high k c.args.bytes.now) (add-zero c.args.base)
-
-pub loop-i-preserved : goal.loop-i-preserved
-loop-i-preserved c =
-    inside c.args.low c.args.high c.args.base c.args.bytes.now c.loop-i.i c.loop-i.invariant
-    c.loop-i-test.true c.if-b-low.false c.if-b-high.false
-
-pub returns-then-b-low : goal.returns-then-b-low
-returns-then-b-low c =
-    found c.args.low c.args.high c.args.base c.args.bytes.now c.loop-i.i c.loop-i.invariant c.loop-i-test.true
-    (elim c.then-b-low.branch [
-      | then-b-low-via-then-b-low w ↦ inl w.if-b-low.true
-      | then-b-low-via-else-b-low+then-b-high w ↦ inr w.if-b-high.true
-    ])
 
 pub returns : goal.returns
-returns c = none c.args.low c.args.high c.args.base c.args.bytes.now c.loop-i.i c.loop-i.invariant (omega arith)
+returns c =
+    let q : ℕ → Bool = λ b. nat_lt b (range_inclusive_start c.args.range) || nat_lt (range_inclusive_end c.args.range) b in
+    let at : c.position.result ≡ position q c.args.bytes.now =
+    position_from_yields_List q _ _ c.position.result c.position.ensures.ran (YieldsList-from_slice _ c.iter.ensures.rest) (λ x b f k. search (rules, tests)) in
+    let map : c.map.result ≡ option_map (λ k. c.args.base + k) c.position.result = search rules in
+    map ∙ ap (option_map (λ k. c.args.base + k)) at ∙ numbered q c.args.base c.args.bytes.now

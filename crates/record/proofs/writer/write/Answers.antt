@@ -1,12 +1,17 @@
+use Rattle.std.proofs.Common.{ap, arith, rules}
+use Rattle.record.specs.Layout.{Contents}
 use Rattle.record.proofs.Trips.{reads_back}
 use Rattle.record.proofs.writer.write.Goals as goal
 
-pub returns : goal.returns
-returns c =
-    let s = c.store.ensures in
-    record {
-      answer = s.answer;
-      after = s.after;
-      reads_back = reads_back c.args.event.now c.args.out.now c.store.new.out c.store.result
-          s.fits.0 s.fits.1 s.answer s.after;
-    }
+pub returns-clause-answer : goal.returns-clause-answer
+returns-clause-answer c = search rules
+
+pub returns-clause-after : goal.returns-clause-after
+returns-clause-after c = search rules
+
+pub returns-clause-reads_back : goal.returns-clause-reads_back
+returns-clause-reads_back c =
+    let same = c.parts-parts.ensures in
+    let length = ap (λ (k : Contents). k.length) same in
+    let value = ap (λ (k : Contents). k.value) same in
+    reads_back c.args.event.now c.args.out.now _ _ (omega arith) (omega arith) (returns-clause-answer c) (returns-clause-after c)

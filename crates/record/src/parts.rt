@@ -1,0 +1,61 @@
+// What a record says, part by part.
+ghost use Rattle.std.specs.Prelude.{◌≡◌};
+ghost use Rattle.record.specs.Layout.{contents, said, saying, used};
+
+use crate::event::Event;
+use crate::letter::Letter;
+
+// 0 stands for what the letter leaves unused.
+#[derive(Clone, Copy)]
+pub(crate) struct Parts<'a> {
+    pub letter: Letter,
+    pub place: u8,
+    pub length: u16,
+    pub value: u32,
+    pub note: &'a [u8],
+}
+
+impl<'a> Parts<'a> {
+    // Those of a record without length and value.
+    pub(crate) fn plain(letter: Letter, place: u8, note: &'a [u8]) -> Parts<'a>
+        ensures { said result ≡ saying letter place 0 0 note.now }
+    {
+        Parts {
+            letter,
+            place,
+            length: 0,
+            value: 0,
+            note,
+        }
+    }
+
+    // The event that they say.
+    pub(crate) fn event(self) -> Event<'a>
+        ensures { contents result ≡ used self.entry.letter (said self.entry) }
+    {
+        let Parts {
+            letter,
+            place,
+            length,
+            value,
+            note,
+        } = self;
+        match letter {
+            Letter::O => Event::Open {
+                place,
+                rate: value,
+                note,
+            },
+            Letter::C => Event::Close { place, note },
+            Letter::A => Event::Arrive {
+                place,
+                length,
+                tag: value,
+                note,
+            },
+            Letter::G => Event::Good { place, note },
+            Letter::B => Event::Bad { place, note },
+            Letter::T => Event::Turn { note },
+        }
+    }
+}
