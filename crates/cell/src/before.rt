@@ -7,7 +7,7 @@ use chooser::Line;
 use session::Row;
 use table::{members, nobody_active};
 
-// Who stood in which list, and whether nobody was active.
+// Who stood in which list, and whether nobody was active. Two rows and no row of pairs: a list is gone through by itself.
 #[derive(Clone, Copy)]
 pub(crate) struct Before {
     pub(crate) credit: [bool; 64],

@@ -55,6 +55,7 @@ fn party(rows: &[Row; 64], place: Place) -> Party
     }
 }
 
+// The rows and the keep go from call to call: the cell holds both, and a struct of them would be made for one call of each turn.
 impl Party {
     // The chosen session sends; `spent` is what that costs its allowance.
     fn send(self, keep: u8, spent: u8, kind: Kind, rows: &mut [Row; 64]) -> Turn

@@ -21,6 +21,7 @@ pub struct LeastServed {
     extra: [u64; 64],
 }
 
+// A list and a place, or a list and an offer, go from call to call as the trait's calls name them; a pair would only be taken apart.
 impl LeastServed {
     // Nobody has been served. Whatever it is told from here on, 2,000,000,000 servings bring no count to the stop.
     #[tactic(auto, using(crate::proofs::Low::counts_stay_low, crate::proofs::Low::never_stops))]

@@ -13,7 +13,7 @@ use std::marker::Model;
 // The room that the longest line has.
 pub const LINE: usize = 64;
 
-// The text so far. What has no room is left out, and no line is so long.
+// The text so far, in memory of its own: nothing here is on the heap. What has no room is left out, and no line is so long.
 #[derive(Drop)]
 pub(crate) struct Text {
     bytes: [u8; LINE],

@@ -111,6 +111,7 @@ fn bytes_past_the_record_follow_it(rt: HostRuntime) -> Result<(), Fail> {
 #[test]
 fn a_fragment_of_any_length_is_truncated(rt: HostRuntime) {
     for record in RECORDS {
+        // the length itself is what is tried
         for n in 1..16 {
             let expected = fault(Refusal::TruncatedRecord, 9, n);
             assert_eq!(rt; fault_in(&record[..n], 9), Some(expected));
@@ -181,11 +182,13 @@ fn the_first_fault_is_named(rt: HostRuntime) {
     let expected = fault(Refusal::UnknownLetter, 6, 0);
     assert_eq!(rt; fault_in(&bytes, 6), Some(expected));
     bytes[0] = b'T';
+    // the byte's number is a part of the fault
     for at in 1..8 {
         let expected = fault(Refusal::UnusedByteNotZero, 6, at);
         assert_eq!(rt; fault_in(&bytes, 6), Some(expected));
         bytes[at] = 0;
     }
+    // and so here
     for at in 8..16 {
         let expected = fault(Refusal::NoteNotPrintable, 6, at);
         assert_eq!(rt; fault_in(&bytes, 6), Some(expected));

@@ -31,7 +31,7 @@ pub const TURN: [u8; 16] = [
 
 pub const RECORDS: [[u8; 16]; 6] = [OPEN, CLOSE, ARRIVE, GOOD, BAD, TURN];
 
-// A fault of the record layer.
+// A fault of the record layer, made here: what is expected does not come from the code that is tested.
 pub(crate) fn fault(refusal: Refusal, record: u64, byte: usize) -> Fault {
     Fault {
         refusal,

@@ -118,6 +118,7 @@ fn a_shorter_buffer_is_refused_and_kept(rt: HostRuntime) {
 #[test]
 fn a_note_of_another_length_is_refused(rt: HostRuntime) {
     let text = b"----------------";
+    // the length itself is what is tried
     for n in 0..17 {
         let event = Event::Good {
             place: 1,
@@ -129,6 +130,7 @@ fn a_note_of_another_length_is_refused(rt: HostRuntime) {
 
 #[test]
 fn a_note_that_is_not_printable_is_refused(rt: HostRuntime) {
+    // one byte of the note after the other is the wrong one
     for at in 0..8 {
         for (b, good) in [
             (0, false),

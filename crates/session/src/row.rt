@@ -1,7 +1,8 @@
 // A place as it stands in the cell's table.
 use queue::Queue;
 
-// Plain numbers. That rate times price is the link wherever a rate is booked, the table's owner sees to.
+// Plain numbers and no `Option<Rate>` with its price: a row lies in C's memory, where zeros alone are a place that is not open.
+// That rate times price is the link wherever a rate is booked, the table's owner sees to.
 #[repr(C)]
 #[derive(Clone, Copy)]
 pub struct Row {

@@ -10,7 +10,7 @@ use chooser::{Entry, Line};
 use session::Row;
 use std::array;
 
-// Who stands in a list, place by place.
+// Who stands in a list, place by place. (`array::from_fn` hands each closure a number: that it is below 64 is the closure's to ask.)
 #[tactic(auto, using(crate::proofs::Tables::at_table))]
 pub fn members(rows: &[Row; 64], line: Line) -> [bool; 64]
     ensures { result ≡ in_list line (table_of rows.now) }

@@ -4,7 +4,7 @@ use answer::Kind::{self, Credit, Extra, Kept, Normal};
 use answer::Refusal::{self, NoneActive};
 use answer::Turn;
 
-// One call.
+// One call. A run is a table and no row of closures: it is played with each keep and chooser, whose cells are of two types.
 #[derive(Clone, Copy)]
 pub(crate) enum Step {
     // place, rate
