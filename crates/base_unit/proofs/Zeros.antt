@@ -1,7 +1,7 @@
 -- The cell of zeros.
 use Rattle.std.proofs.Common.{◌≡◌, false, replicate, pos, refl, lit<, lit≤, rules}
 use Rattle.std.proofs.lemmas.List.Elements.{All-replicate}
-use Rattle.cell.proofs.Sized.{table_vacant}
+use Rattle.cell.proofs.Rows.{table_vacant}
 use Rattle.least_served.specs.Served.{unserved}
 use Rattle.model.proofs.Books.{new_sound}
 use Rattle.model.specs.Table.{vacancies}
