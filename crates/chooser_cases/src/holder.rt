@@ -41,6 +41,7 @@ impl<C: Chooser> Holder<C> {
     pub fn join_all(&mut self, line: Line, offer: &Offer)
         ensures { self.new.chooser ≡ told_below (λ c place. C.after_joined c line place offer.now) self.old.chooser 64 }
     {
+        // no row is gone over: the number itself is told
         for place in 0..64 {
             self.chooser.joined(line, place, offer);
         }

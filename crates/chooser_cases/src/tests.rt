@@ -69,6 +69,7 @@ fn offers_take_what_is_sound(rt: HostRuntime) -> Result<(), Fail> {
     offer.put(64, 1, Rate::new(1)?);
     offer.put(3, 3_072_000_000_001, Rate::new(1)?);
     offer.put(3, -3_072_000_000_001, Rate::new(1)?);
+    // the number itself is asked for
     for place in 0..64 {
         assert!(rt; !offer.offers(place));
     }
@@ -165,6 +166,7 @@ fn tellings_out_of_range_do_nothing(rt: HostRuntime) -> Result<(), Fail> {
     least.served(Line::Credit, 4, 100, 0);
     least.joined(Line::Credit, 64, &offer);
     least.cleared(64);
+    // the number itself is asked for
     for place in 0..64 {
         assert_eq!(rt; least.count(Line::Extra, place), Some(0));
     }

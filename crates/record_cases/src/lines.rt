@@ -156,6 +156,7 @@ fn under_64_bytes_there_is_no_line(rt: HostRuntime) {
     let event = Event::Turn { note: b"--------" };
     assert_eq!(rt; Refusal::BufferTooShort.number(), 17);
     let expected = (Err(Refusal::BufferTooShort), [b'.'; 66]);
+    // the length itself is what is tried
     for n in 0..64 {
         assert_eq!(rt;
             into_first(n, |out| line(1, event, Ok(Answer::Done), out)),
@@ -171,6 +172,7 @@ fn under_64_bytes_there_is_no_line(rt: HostRuntime) {
 #[test]
 fn from_64_bytes_on_there_is_one(rt: HostRuntime) {
     let event = Event::Turn { note: b"--------" };
+    // and so here
     for n in 64..67 {
         assert_eq!(rt;
             into_first(n, |out| line(1, event, Ok(Answer::Done), out)),
