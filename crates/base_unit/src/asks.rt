@@ -34,7 +34,7 @@ pub extern "C" fn dalgweniz_frame(unit: &Unit, place: u8, i: usize, out: &mut Fr
     give(Cell::from(unit).frame(place, i), out)
 }
 
-// The service that a place has had from the credit list, or from the extra list.
+// The service that a place has had from the credit list, or from the extra list, which C tells by a flag: it has no `Line`.
 #[unsafe(no_mangle)]
 pub extern "C" fn dalgweniz_count(unit: &Unit, extra: bool, place: u8, out: &mut u64) -> u8
     ensures answer { result ≡ count_told (asked_count (unit_view unit.now).chooser (list_of extra) place) }

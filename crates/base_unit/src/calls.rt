@@ -17,7 +17,7 @@ use cell::Cell;
 use least_served::LeastServed;
 use record::Event;
 
-// No record told of the event. (A closure over the cell in place of an event left both goals of each call open.)
+// No record told of the event. (Tried: a closure over the cell in place of an event. Both goals of the call stayed open.)
 const NO_NOTE: &[u8] = b"";
 
 // A new cell in place of what was there, for which all zero will do: that is a cell too. Whatever is called on it from here on, it

@@ -49,7 +49,7 @@ impl<C> Cell<C> {
         if found.row.booked {
             return Err(Refusal::PlaceOpen);
         }
-        let booked = Rate::new(rate)?;
+        let booked = Rate::try_from(rate)?;
         if rate > LINK - self.booked() {
             return Err(Refusal::LinkOverbooked);
         }

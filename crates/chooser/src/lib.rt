@@ -15,7 +15,8 @@ pub use entry::{Entry, Line};
 pub use offer::Offer;
 pub use place::Place;
 
-// A chooser answers whom it would pick now, and is told what happened. It refuses nothing.
+// A chooser answers whom it would pick now, and is told what happened. It refuses nothing. Places are numbers and no `Place`: it may
+// be told of one above 63, and that does nothing.
 pub trait Chooser {
     // The place that it would pick now from a list, given who is in it.
     ghost pick: { Self → TheLine → TheOffer → Maybe ℕ };

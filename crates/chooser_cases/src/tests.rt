@@ -13,7 +13,7 @@ use tariff::Rate;
 fn offering(places: &[(usize, i64, u32)]) -> Result<Offer, Fail> {
     let mut offer = Offer::none();
     for &(place, lag, units) in places {
-        offer.put(place, lag, Rate::new(units)?);
+        offer.put(place, lag, Rate::try_from(units)?);
     }
     Ok(offer)
 }
@@ -66,14 +66,14 @@ fn every_chooser_picks_the_lowest(rt: HostRuntime) -> Result<(), Fail> {
 #[test]
 fn offers_take_what_is_sound(rt: HostRuntime) -> Result<(), Fail> {
     let mut offer = Offer::none();
-    offer.put(64, 1, Rate::new(1)?);
-    offer.put(3, 3_072_000_000_001, Rate::new(1)?);
-    offer.put(3, -3_072_000_000_001, Rate::new(1)?);
+    offer.put(64, 1, Rate::try_from(1)?);
+    offer.put(3, 3_072_000_000_001, Rate::try_from(1)?);
+    offer.put(3, -3_072_000_000_001, Rate::try_from(1)?);
     // the number itself is asked for
     for place in 0..64 {
         assert!(rt; !offer.offers(place));
     }
-    offer.put(3, -3_072_000_000_000, Rate::new(7)?);
+    offer.put(3, -3_072_000_000_000, Rate::try_from(7)?);
     assert!(rt; offer.offers(3) && !offer.offers(64) && !offer.offers(67));
     let entry = Entry {
         lag: -3_072_000_000_000,

@@ -17,7 +17,7 @@ struct End {
     fault: Option<Fault>,
 }
 
-// Why nothing more was played.
+// Why nothing more was played. Crews read other words here than in a listing, which has a `Stopped` of its own.
 #[derive(Drop)]
 struct Stopped(Fault);
 
@@ -32,6 +32,11 @@ impl fmt::Display for Stopped {
         let number = refusal.number();
         write!(f, "stopped at record {record} refusal {number} byte {byte}")
     }
+}
+
+// Prints how the cell stands after so many records.
+fn print<C, W: Write>(cell: &Cell<C>, after: u64, out: &mut W) -> io::Result<()> {
+    write!(out, "{}", Sheet { after, cell })
 }
 
 // Plays the records up to the end, a fault of a record or the limit, with the sheets that are due meanwhile.
@@ -55,11 +60,7 @@ fn play_all<C: Chooser, R: Read, W: Write>(
             }
         }
         if due(every, played) {
-            let sheet = Sheet {
-                after: played,
-                cell,
-            };
-            write!(out, "{sheet}")?;
+            print(cell, played, out)?;
         }
     }
     Ok(End {
@@ -80,11 +81,7 @@ pub(crate) fn play<C: Chooser, R: Read, W: Write>(
         writeln!(out, "{}", Stopped(fault))?;
     }
     if !due(every, played) {
-        let sheet = Sheet {
-            after: played,
-            cell,
-        };
-        write!(out, "{sheet}")?;
+        print(cell, played, out)?;
     }
     Ok(())
 }

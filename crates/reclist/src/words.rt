@@ -16,7 +16,7 @@ impl fmt::Display for InWords<'_> {
         let InWords { number, event } = *self;
         write!(f, "{number}: ")?;
         match event {
-            Event::Open { place, rate, .. } => match Rate::new(rate) {
+            Event::Open { place, rate, .. } => match Rate::try_from(rate) {
                 Ok(booked) => write!(
                     f,
                     "place {place} opens at rate {rate}, price {}",
@@ -42,6 +42,7 @@ impl fmt::Display for InWords<'_> {
             Event::Turn { .. } => write!(f, "a turn"),
         }?;
         write!(f, " [")?;
+        // byte by byte: that a note is text, `str::from_utf8` would ask again
         for b in event.note() {
             f.write_char(char::from(*b))?;
         }

@@ -52,17 +52,7 @@ impl Row {
     pub fn stays(&self, line: Line, before: bool) -> Option<Entry>
         ensures { result ≡ stay line before (seen self.now) }
     {
-        (before & self.stands_in(line)).then_some(self.entry())
-    }
-
-    fn entry(&self) -> Entry
-        ensures { result ≡ offered self.now.lag self.now.rate self.now.price }
-    {
-        Entry {
-            lag: self.lag,
-            rate: self.rate,
-            price: self.price,
-        }
+        (before & self.stands_in(line)).then_some(Entry::from(self))
     }
 
     // The key by which it is due: its virtual time, while it is active.
@@ -70,5 +60,18 @@ impl Row {
         ensures { result ≡ time_key (seen self.now) }
     {
         self.active.then_some(VirtualTime(self.virtual_time))
+    }
+}
+
+// What an offer says of it.
+impl From<&Row> for Entry {
+    ghost from_gives = { λ row entry. entry ≡ offered row.now.lag row.now.rate row.now.price };
+
+    fn from(row: &Row) -> Entry {
+        Entry {
+            lag: row.lag,
+            rate: row.rate,
+            price: row.price,
+        }
     }
 }

@@ -9,7 +9,8 @@ use super::row::Row;
 use queue::Frame;
 
 impl Row {
-    // Takes its first frame; a queue without one gives a frame of no bytes.
+    // Takes its first frame; a queue without one gives a frame of no bytes, as `front` does, and no `Option`: only who is able is
+    // asked.
     pub fn pop(&mut self) -> Frame
         ensures frame { result ≡ front (seen self.old).queue }
         ensures after { seen self.new ≡ popped (seen self.old) }

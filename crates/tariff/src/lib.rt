@@ -30,11 +30,13 @@ pub fn listed(units: u32) -> bool
     search(units).is_ok()
 }
 
-impl Rate {
-    // The rate of so many units, if the tariff has it.
-    pub fn new(units: u32) -> Result<Rate, Refusal>
-        ensures { told result ≡ asked units }
-    {
+// The rate of so many units, if the tariff has it.
+impl TryFrom<u32> for Rate {
+    type Error = Refusal;
+
+    ghost try_from_gives = { λ units r. told r ≡ asked units };
+
+    fn try_from(units: u32) -> Result<Rate, Refusal> {
         if !listed(units) {
             return Err(Refusal::RateNotInTariff);
         }
@@ -53,7 +55,7 @@ mod tests {
     #[test]
     fn prices(rt: HostRuntime) -> Result<(), Fail> {
         for (units, price) in [(1, 720720), (7, 102960), (360360, 2), (720720, 1)] {
-            let rate = Rate::new(units)?;
+            let rate = Rate::try_from(units)?;
             assert_eq!(rt; (rate.units(), rate.price()), (units, price));
         }
         Ok(())
@@ -62,7 +64,7 @@ mod tests {
     #[test]
     fn refused(rt: HostRuntime) {
         for units in [0, 17, 720719, 720721, 1441440, u32::MAX] {
-            assert_eq!(rt; Rate::new(units).err().map(Refusal::number), Some(8));
+            assert_eq!(rt; Rate::try_from(units).err().map(Refusal::number), Some(8));
         }
     }
 

@@ -17,6 +17,7 @@ const LENGTH: u16 = 1_000;
 
 // Every place opens, with two frames.
 fn fill<C: Chooser>(cell: &mut Cell<C>) {
+    // the number itself is what is opened
     for place in 0..64 {
         let _ = cell.open(place, RATE);
         for _ in 0..2 {
