@@ -1,3 +1,4 @@
+pub mod Limits
 pub mod Offers
 pub mod Picks
 pub mod Places

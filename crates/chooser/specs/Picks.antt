@@ -2,10 +2,11 @@
 use Rattle.std.specs.Prelude.{◌≡◌, ℕ, ◌≤◌, Bool, true, false, List, Some, None, Option}
 use Rattle.keys.specs.Places.{first_place}
 use Rattle.chooser.specs.declared.entry.Entry.{Entry}
+use Rattle.chooser.specs.Limits.{places}
 use Rattle.chooser.specs.Offers.{offered_at}
 
 abbrev pub first_by : {K : Type 0} → (K → K → Bool) → (ℕ → K) → List (Option Entry) → Option ℕ
-first_by before key es = first_place before 64 (offered_at es) key
+first_by before key es = first_place before places (offered_at es) key
 
 -- the place is offered; no offered place has a key that comes before its own, and one with the same key stands no lower
 pub record FirstOffered {K : Type 0} (before : K → K → Bool) (key : ℕ → K) (es : List (Option Entry)) (place : ℕ) : Type 0 where

@@ -7,13 +7,14 @@ use Rattle.keys.specs.Kinds.{count, count_before}
 use Rattle.chooser.specs.declared.entry.Entry.{Entry}
 use Rattle.chooser.specs.declared.entry.Line.{Line}
 use Rattle.chooser.specs.declared.entry.Line.TheVariants.{Credit, Extra}
+use Rattle.chooser.specs.Limits.{places, longest}
 use Rattle.chooser.specs.Offers.{offered_at}
 use Rattle.chooser.specs.Picks.{first_by}
 use Rattle.least_served.specs.declared.counts.LeastServed.{LeastServed}
 
 -- ---- the counts
 abbrev pub unserved : LeastServed
-unserved = record { credit = replicate 64 0; extra = replicate 64 0 }
+unserved = record { credit = replicate places 0; extra = replicate places 0 }
 
 abbrev pub counts : LeastServed → Line → List ℕ
 counts c Credit = c.credit
@@ -28,7 +29,7 @@ with_count c Extra place n = record { credit = c.credit; extra = slice_set c.ext
 
 -- the count of one of the 64 places
 abbrev pub asked_count : LeastServed → Line → ℕ → Option ℕ
-asked_count c line place = cond (nat_lt place 64) (Some (count_at c line place)) None
+asked_count c line place = cond (nat_lt place places) (Some (count_at c line place)) None
 
 -- ---- the pick
 abbrev pub count_key : LeastServed → Line → ℕ → Count
@@ -55,7 +56,7 @@ stopped n = min n 9223372036854775807
 
 -- a serving is counted if place, length and price can be
 abbrev pub countable : ℕ → ℕ → ℕ → Bool
-countable place length price = nat_lt place 64 && (nat_le length 1536 && in_tariff price)
+countable place length price = nat_lt place places && (nat_le length longest && in_tariff price)
 
 -- served adds length times price to the count of the list; `stop` is what becomes of a count that grew
 abbrev pub after_served : (ℕ → ℕ) → LeastServed → Line → ℕ → ℕ → ℕ → LeastServed
@@ -72,8 +73,8 @@ abbrev pub joined_count : LeastServed → Line → ℕ → List (Option Entry) �
 joined_count c line place es = raised c line (count_at c line place) (least_served c line es)
 
 abbrev pub after_joined : LeastServed → Line → ℕ → List (Option Entry) → LeastServed
-after_joined c line place es = cond (nat_lt place 64) (with_count c line place (joined_count c line place es)) c
+after_joined c line place es = cond (nat_lt place places) (with_count c line place (joined_count c line place es)) c
 
 -- cleared sets both counts to 0
 abbrev pub after_cleared : LeastServed → ℕ → LeastServed
-after_cleared c place = cond (nat_lt place 64) (with_count (with_count c Credit place 0) Extra place 0) c
+after_cleared c place = cond (nat_lt place places) (with_count (with_count c Credit place 0) Extra place 0) c

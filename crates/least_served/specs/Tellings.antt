@@ -3,6 +3,8 @@
 use Rattle.std.specs.Prelude.{◌≡◌, ℕ, ◌+◌, ◌*◌, ◌≤◌, List, [], ◌∷◌, Option}
 use Rattle.chooser.specs.declared.entry.Entry.{Entry}
 use Rattle.chooser.specs.declared.entry.Line.{Line}
+use Rattle.chooser.specs.Limits.{longest, most_turns}
+use Rattle.tariff.specs.Tariff.{link}
 use Rattle.least_served.specs.declared.counts.LeastServed.{LeastServed}
 use Rattle.least_served.specs.Served.{unserved, count_at, stopped, after_served, after_joined, after_cleared}
 
@@ -33,8 +35,8 @@ servings (t ∷ ts) = serving t + servings ts
 
 -- a count is at most 1,536 times 720,720 for each serving
 abbrev pub CountsStayLow : Type 0
-CountsStayLow = (ts : List Telling) (line : Line) (place : ℕ) → count_at (told_all stopped unserved ts) line place ≤ 1536 * 720720 * servings ts
+CountsStayLow = (ts : List Telling) (line : Line) (place : ℕ) → count_at (told_all stopped unserved ts) line place ≤ longest * link * servings ts
 
 -- within 2,000,000,000 servings the counts are what they would be without a stop
 abbrev pub NeverStops : Type 0
-NeverStops = (ts : List Telling) → servings ts ≤ 2000000000 → told_all stopped unserved ts ≡ told_all (λ n. n) unserved ts
+NeverStops = (ts : List Telling) → servings ts ≤ most_turns → told_all stopped unserved ts ≡ told_all (λ n. n) unserved ts

@@ -1,26 +1,16 @@
--- The numbers that bound a cell. Each stands here once.
+-- The numbers that bound a cell, with those that its chooser and its queues know too.
 use Rattle.std.specs.Prelude.{ℕ, ◌*◌}
 use Rattle.tariff.specs.Tariff.{link}
-
--- places, numbered from 0
-abbrev pub places : ℕ
-places = 64
-
--- bytes of the longest frame
-abbrev pub longest : ℕ
-longest = 1536
+use Rattle.queue.specs.Fifo.{room}
+pub use Rattle.chooser.specs.Limits.{places, longest, most_turns}
 
 -- frames that may wait at one place
 abbrev pub most_waiting : ℕ
-most_waiting = 32
+most_waiting = room
 
 -- bytes for which a turn is charged in which nobody sends
 abbrev pub idle_length : ℕ
 idle_length = 256
-
--- turns that one cell accepts
-abbrev pub most_turns : ℕ
-most_turns = 2000000000
 
 -- An allowance counts quarters of a charge: the keep is how many of the four a leading session earns, and a turn kept by
 -- allowance spends all four.

@@ -4,9 +4,11 @@ use Rattle.answer.specs.declared.turn.Kind.{Kind}
 use Rattle.answer.specs.declared.turn.Kind.TheVariants.{Normal, Credit as OnCredit, Kept, Extra as OnExtra, Idle}
 use Rattle.answer.specs.declared.turn.Sent.{Sent}
 use Rattle.answer.specs.declared.turn.Turn.{Turn}
+use Rattle.queue.specs.Ring.{no_frame}
 use Rattle.model.specs.Limits.{idle_length, quarters}
 use Rattle.model.specs.Session.{Frame, Session, able, leads, with_virtual_time, with_lag, with_allowance, with_queue}
 use Rattle.model.specs.Table.{Table, at, change}
+pub use Rattle.queue.specs.Fifo.{rest}
 
 -- ---- who sends
 
@@ -58,12 +60,8 @@ kind idle = Idle
 -- ---- what it sends
 
 abbrev pub front : List Frame → Frame
-front [] = record { tag = 0; length = 0 }
+front [] = no_frame
 front (f ∷ fs) = f
-
-abbrev pub rest : List Frame → List Frame
-rest [] = []
-rest (f ∷ fs) = fs
 
 abbrev pub length_of : Table → Option ℕ → ℕ
 length_of t None = idle_length
