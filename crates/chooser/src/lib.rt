@@ -15,6 +15,12 @@ pub use entry::{Entry, Line};
 pub use offer::Offer;
 pub use place::Place;
 
+// The bytes of the longest frame.
+pub const LONGEST: u16 = 1_536;
+
+// The turns that a cell accepts.
+pub const MOST_TURNS: u32 = 2_000_000_000;
+
 // A chooser answers whom it would pick now, and is told what happened. It refuses nothing. Places are numbers and no `Place`: it may
 // be told of one above 63, and that does nothing.
 pub trait Chooser {

@@ -3,10 +3,11 @@ ghost use Rattle.std.specs.Prelude.{◌≡◌, true, nat_le, unsigned_abs};
 ghost use Rattle.chooser.specs.Offers.{sound, nobody, entry_at, offered_at, with_offered, lag_bound};
 
 use super::entry::Entry;
+use super::{LONGEST, MOST_TURNS};
 use tariff::Rate;
 
 // How far a lag may be from 0.
-const LAG_BOUND: i64 = 3_072_000_000_000;
+const LAG_BOUND: i64 = LONGEST as i64 * MOST_TURNS as i64;
 
 // Whoever has what the 64 places offer may make an offer of it, on showing that it is sound.
 #[derive(Clone, Copy)]

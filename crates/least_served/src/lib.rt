@@ -5,7 +5,7 @@ ghost use Rattle.std.specs.Prelude.{◌≡◌};
 ghost use Rattle.least_served.specs.Served.{least_served, PicksLeastServed, stopped, after_served as counts_after_served, after_joined as counts_after_joined, after_cleared as counts_after_cleared};
 ghost use Rattle.least_served.specs.Laws.{least_is_offered};
 
-use chooser::{Chooser, Line, Offer, Place};
+use chooser::{Chooser, LONGEST, Line, Offer, Place};
 use tariff::listed;
 
 mod counts;
@@ -34,7 +34,7 @@ impl Chooser for LeastServed {
         let Some(place) = Place::new(place) else {
             return;
         };
-        if length <= 1_536 && listed(price) {
+        if length <= LONGEST && listed(price) {
             self.add(line, place, u64::from(length) * u64::from(price));
         }
     }
