@@ -29,6 +29,7 @@ fn filled(cell: &mut Cell<LeastServed>, place: u8, frames: u32) -> Result<(), Fa
 }
 
 // A call that is refused, and leaves all that can be asked as it was.
+// By number: that these refusals have the numbers of REFUSALS.md is tested by it too.
 fn refused<T: Drop, F: FnOnce(&mut Cell<LeastServed>) -> Result<T, Refusal>>(
     rt: &impl Abort,
     cell: &mut Cell<LeastServed>,

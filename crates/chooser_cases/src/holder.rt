@@ -1,4 +1,5 @@
 // What holds a chooser and knows no more of it than every chooser shows.
+// It takes line and offer as choosers do: a pair would be made for each call and taken apart here.
 ghost use Rattle.std.specs.Prelude.{◌≡◌};
 ghost use Rattle.chooser.specs.Offers.{PicksOffered};
 ghost use Rattle.chooser_cases.specs.Told.{served_pick, told_below};

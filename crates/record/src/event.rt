@@ -6,7 +6,7 @@ use crate::letter::Letter;
 use crate::parts::Parts;
 
 // The note is a part of the record that was read.
-#[derive(Clone, Copy, Debug)]
+#[derive(Clone, Copy, PartialEq, Eq, Debug)]
 pub enum Event<'a> {
     Open {
         place: u8,
@@ -36,12 +36,12 @@ pub enum Event<'a> {
     },
 }
 
-impl<'a> Event<'a> {
-    // The parts of its record.
-    pub(crate) fn parts(self) -> Parts<'a>
-        ensures { said result ≡ contents self.entry }
-    {
-        match self {
+// The parts of its record.
+impl<'a> From<Event<'a>> for Parts<'a> {
+    ghost from_gives = { λ event parts. said parts ≡ contents event };
+
+    fn from(event: Event<'a>) -> Parts<'a> {
+        match event {
             Event::Open { place, rate, note } => Parts {
                 value: rate,
                 ..Parts::plain(Letter::O, place, note)
@@ -62,17 +62,19 @@ impl<'a> Event<'a> {
             Event::Turn { note } => Parts::plain(Letter::T, 0, note),
         }
     }
+}
 
+impl<'a> Event<'a> {
     // The letter of its record.
     pub fn letter(self) -> Letter
         ensures { result ≡ (contents self.entry).letter }
     {
-        self.parts().letter
+        Parts::from(self).letter
     }
 
     pub fn note(self) -> &'a [u8]
         ensures { result.now ≡ (contents self.entry).note }
     {
-        self.parts().note
+        Parts::from(self).note
     }
 }

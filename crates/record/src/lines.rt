@@ -1,4 +1,4 @@
-// The line of each record.
+// The line of each record. Two functions, so that nobody can pair no event with an accepted turn.
 ghost use Rattle.std.specs.Prelude.{◌≡◌, ◌<◌, IfOk};
 ghost use Rattle.record.specs.Layout.{contents};
 ghost use Rattle.record.specs.Lines.{fault_text, line_text, lining};
@@ -8,7 +8,7 @@ use crate::event::Event;
 use crate::text::Text;
 use answer::{Answer, Refusal};
 
-// The line of an event and its result into the front of a buffer, and the line's length.
+// The line of an event and its result into the front of a buffer, and the line's length: C is told it as a number.
 pub fn line(
     number: u64,
     event: Event,

@@ -5,7 +5,7 @@ ghost use Rattle.record.specs.Layout.{contents, said, saying, used};
 use crate::event::Event;
 use crate::letter::Letter;
 
-// 0 stands for what the letter leaves unused.
+// 0 stands for what the letter leaves unused: the record has zero bytes there, so reading and writing take it as it is.
 #[derive(Clone, Copy)]
 pub(crate) struct Parts<'a> {
     pub letter: Letter,
@@ -28,18 +28,20 @@ impl<'a> Parts<'a> {
             note,
         }
     }
+}
 
-    // The event that they say.
-    pub(crate) fn event(self) -> Event<'a>
-        ensures { contents result ≡ used self.entry.letter (said self.entry) }
-    {
+// The event that they say.
+impl<'a> From<Parts<'a>> for Event<'a> {
+    ghost from_gives = { λ parts event. contents event ≡ used parts.letter (said parts) };
+
+    fn from(parts: Parts<'a>) -> Event<'a> {
         let Parts {
             letter,
             place,
             length,
             value,
             note,
-        } = self;
+        } = parts;
         match letter {
             Letter::O => Event::Open {
                 place,

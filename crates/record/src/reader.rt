@@ -63,7 +63,7 @@ fn parse<'a>(bytes: &'a [u8; RECORD], number: u64) -> Result<Event<'a>, Fault>
         value: u32::from_le_bytes([v0, v1, v2, v3]),
         note,
     };
-    Ok(parts.event())
+    Ok(Event::from(parts))
 }
 
 // The next record of the input, by its number, with what follows it; none where the input has ended.

@@ -6,6 +6,7 @@ ghost use Rattle.record.specs.Putting.{Appends};
 ghost use Rattle.record.specs.Writing.{after as buffer_after};
 
 use crate::event::Event;
+use crate::parts::Parts;
 use answer::{Answer, Refusal, Sent, Turn};
 use itoa::{Buffer, Integer};
 use std::marker::Model;
@@ -34,7 +35,7 @@ impl Text {
         ensures text { result ≡ line_text number (contents event.entry) res }
         ensures short { length (line_text number (contents event.entry) res) < 64 }
     {
-        let parts = event.parts();
+        let parts = Parts::from(event);
         let mut text = Text::new();
         text.push_head(number, u8::from(parts.letter), res);
         text.push_note(parts.note);

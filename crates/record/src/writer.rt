@@ -6,6 +6,7 @@ ghost use Rattle.record.specs.Laws.{ReadsBack};
 
 use crate::event::Event;
 use crate::layout::{NOTE, RECORD};
+use crate::parts::Parts;
 use crate::reader::{fault, first_unprintable};
 use answer::{Fault, Refusal};
 
@@ -15,7 +16,7 @@ pub fn write(event: &Event, out: &mut [u8]) -> Result<(), Fault>
     ensures after { out.new ≡ written (contents event.now) out.old }
     ensures reads_back { ReadsBack (contents event.now) out.old out.new result }
 {
-    let parts = event.parts();
+    let parts = Parts::from(*event);
     let note = parts.note;
     if note.len() != RECORD - NOTE || first_unprintable(note).is_some() {
         return Err(fault(Refusal::NoteNotPrintable, 0, NOTE));

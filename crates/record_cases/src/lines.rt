@@ -172,7 +172,7 @@ fn under_64_bytes_there_is_no_line(rt: HostRuntime) {
 #[test]
 fn from_64_bytes_on_there_is_one(rt: HostRuntime) {
     let event = Event::Turn { note: b"--------" };
-    // and so here
+    // the length itself is what is tried
     for n in 64..67 {
         assert_eq!(rt;
             into_first(n, |out| line(1, event, Ok(Answer::Done), out)),

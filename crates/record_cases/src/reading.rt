@@ -1,9 +1,9 @@
 // Reading: every letter, every fault, at every byte.
 ghost use Rattle.std.specs.Prelude.{◌<◌};
 
-use super::samples::{ARRIVE, BAD, CLOSE, GOOD, OPEN, RECORDS, TURN, fault};
+use super::samples::{ARRIVE, BAD, CLOSE, GOOD, OPEN, RECORDS, SAID, TURN, fault};
 use answer::{Fault, Refusal};
-use record::{Event, Letter, read};
+use record::{Letter, read};
 use std::test::Fail;
 
 // The fault that reading gives, if it gives one.
@@ -27,75 +27,9 @@ fn empty_input_has_no_record(rt: HostRuntime) -> Result<(), Fail> {
 
 #[test]
 fn every_letter_is_read(rt: HostRuntime) {
-    assert!(rt;
-        matches!(
-            read(&OPEN, 1),
-            Ok(Some((
-                Event::Open {
-                    place: 63,
-                    rate: 720_720,
-                    note: b"hall 7 E"
-                },
-                []
-            )))
-        )
-    );
-    assert!(rt;
-        matches!(
-            read(&CLOSE, 1),
-            Ok(Some((
-                Event::Close {
-                    place: 255,
-                    note: b"closed.."
-                },
-                []
-            )))
-        )
-    );
-    assert!(rt;
-        matches!(
-            read(&ARRIVE, 1),
-            Ok(Some((
-                Event::Arrive {
-                    place: 5,
-                    length: 1536,
-                    tag: 4_294_967_295,
-                    note: b"caption "
-                },
-                []
-            )))
-        )
-    );
-    assert!(rt;
-        matches!(
-            read(&GOOD, 1),
-            Ok(Some((
-                Event::Good {
-                    place: 0,
-                    note: b"        "
-                },
-                []
-            )))
-        )
-    );
-    assert!(rt;
-        matches!(
-            read(&BAD, 1),
-            Ok(Some((
-                Event::Bad {
-                    place: 1,
-                    note: b"~~~~~~~~"
-                },
-                []
-            )))
-        )
-    );
-    assert!(rt;
-        matches!(
-            read(&TURN, 1),
-            Ok(Some((Event::Turn { note: b"--------" }, [])))
-        )
-    );
+    for (record, event) in &SAID {
+        assert_eq!(rt; read(record, 1), Ok(Some((*event, [].as_slice()))));
+    }
 }
 
 #[test]
@@ -143,6 +77,7 @@ fn an_unused_byte_has_to_be_zero(rt: HostRuntime) {
         (TURN, 1..8),
     ];
     for (record, unused) in unused {
+        // the byte's number is what is tried
         for at in 1..8 {
             for b in [1, 32, 255] {
                 let refused = fault(Refusal::UnusedByteNotZero, 4, at);
@@ -156,6 +91,7 @@ fn an_unused_byte_has_to_be_zero(rt: HostRuntime) {
 #[test]
 fn a_note_is_printable(rt: HostRuntime) {
     for record in RECORDS {
+        // the byte's number is what is tried
         for at in 8..16 {
             for (b, good) in [
                 (0, false),
@@ -188,7 +124,7 @@ fn the_first_fault_is_named(rt: HostRuntime) {
         assert_eq!(rt; fault_in(&bytes, 6), Some(expected));
         bytes[at] = 0;
     }
-    // and so here
+    // the byte's number is a part of this fault too
     for at in 8..16 {
         let expected = fault(Refusal::NoteNotPrintable, 6, at);
         assert_eq!(rt; fault_in(&bytes, 6), Some(expected));

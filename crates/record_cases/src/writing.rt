@@ -1,5 +1,5 @@
 // Writing: every letter, both refusals, and what is left of the buffer.
-use super::samples::{ARRIVE, BAD, CLOSE, GOOD, OPEN, RECORDS, TURN, fault, into_first};
+use super::samples::{RECORDS, SAID, fault, into_first};
 use answer::{Fault, Refusal};
 use record::{Event, read, write};
 use std::process::Abort;
@@ -27,49 +27,8 @@ fn writes_if(rt: &impl Abort, good: bool, event: &Event) {
 
 #[test]
 fn every_letter_is_written(rt: HostRuntime) {
-    let events = [
-        (
-            Event::Open {
-                place: 63,
-                rate: 720_720,
-                note: b"hall 7 E",
-            },
-            OPEN,
-        ),
-        (
-            Event::Close {
-                place: 255,
-                note: b"closed..",
-            },
-            CLOSE,
-        ),
-        (
-            Event::Arrive {
-                place: 5,
-                length: 1536,
-                tag: 4_294_967_295,
-                note: b"caption ",
-            },
-            ARRIVE,
-        ),
-        (
-            Event::Good {
-                place: 0,
-                note: b"        ",
-            },
-            GOOD,
-        ),
-        (
-            Event::Bad {
-                place: 1,
-                note: b"~~~~~~~~",
-            },
-            BAD,
-        ),
-        (Event::Turn { note: b"--------" }, TURN),
-    ];
-    for (event, record) in events {
-        writes(&rt, &event, &record);
+    for (record, event) in &SAID {
+        writes(&rt, event, record);
     }
 }
 
@@ -107,6 +66,7 @@ fn a_shorter_buffer_is_refused_and_kept(rt: HostRuntime) {
     let turn = Event::Turn { note: b"--------" };
     let too_short = fault(Refusal::BufferTooShort, 0, 0);
     assert_eq!(rt; too_short.refusal.number(), 17);
+    // the length itself is what is tried
     for n in 0..16 {
         assert_eq!(rt;
             into_first(n, |out| write(&turn, out)),

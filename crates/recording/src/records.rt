@@ -39,7 +39,8 @@ impl Record {
     }
 }
 
-// Counts the records from 1 on, up to the limit. Past the end of the input they are empty.
+// Counts the records from 1 on, up to the limit. Past the end of the input they are empty:
+// `read` of `record` says of an empty record that there is none, and nobody else has to.
 #[derive(Drop)]
 pub struct Records<R> {
     reader: R,

@@ -5,6 +5,7 @@ use answer::Refusal::{self, NoneActive};
 use answer::Turn;
 
 // One call. A run is a table and no row of closures: it is played with each keep and chooser, whose cells are of two types.
+// No `Event` of a record: that would carry a note.
 #[derive(Clone, Copy)]
 pub(crate) enum Step {
     // place, rate
@@ -17,7 +18,7 @@ pub(crate) enum Step {
     Turn,
 }
 
-// What a turn gives.
+// What a turn gives, its parts in order: a `Turn` and its `Sent` would put six names into each row of a table.
 #[derive(Clone, Copy)]
 pub(crate) enum Given {
     // chosen place, sender, tag, length
@@ -28,7 +29,7 @@ pub(crate) enum Given {
 }
 
 impl Given {
-    // The answer of a cell that says it.
+    // The answer of a cell that says it. No `From`: it is mapped over a row by its name.
     pub(crate) fn answer(self) -> Result<Turn, Refusal> {
         match self {
             Given::Sent(chosen, sender, tag, length, kind) => Ok(Turn {

@@ -17,4 +17,4 @@ returns c =
     let n : c.from_le_bytes.result ≡ length_in bs = c.from_le_bytes.ensures ∙ sym (length_is bs (omega arith)) in
     let v : c.from_le_bytes-2.result ≡ value_in bs = c.from_le_bytes-2.ensures ∙ sym (value_is bs (omega arith)) in
     accepted c.args.number bs l some zeros clean _
-    (c.event.ensures ∙ (λ i. used l (saying l (place_in bs) (n i) (v i) (note_in bs))) ∙ says bs c.told-bytes l (sym zeros))
+    (c.from-2.ensures ∙ (λ i. used l (saying l (place_in bs) (n i) (v i) (note_in bs))) ∙ says bs c.told-bytes l (sym zeros))

@@ -11,7 +11,7 @@ returns-clause-after c = search rules
 
 pub returns-clause-reads_back : goal.returns-clause-reads_back
 returns-clause-reads_back c =
-    let same = c.parts-parts.ensures in
+    let same = c.from-parts.ensures in
     let length = ap (λ (k : Contents). k.length) same in
     let value = ap (λ (k : Contents). k.value) same in
     reads_back c.args.event.now c.args.out.now _ _ (omega arith) (omega arith) (returns-clause-answer c) (returns-clause-after c)
