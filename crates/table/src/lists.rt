@@ -24,7 +24,7 @@ pub fn members(rows: &[Row; 64], line: Line) -> [bool; 64]
     )
 }
 
-// Whether a place is in a list now that was not.
+// Whether a place is in a list now that was not. (A line and who stood in it come apart: a pair would be made for each call and taken apart there.)
 #[tactic(auto, using(crate::proofs::Chains::joins_of))]
 pub fn anybody_joined(rows: &[Row; 64], line: Line, before: &[bool; 64]) -> bool
     ensures { result ≡ any_joins line before.now (table_of rows.now) }

@@ -22,6 +22,7 @@ pub fn due(rows: &[Row; 64]) -> Option<Place>
     ensures soonest { (d : Row) → option_map (λ place. (slice_index_or rows.now place.number d).virtual_time) result ≡
         least (table_of rows.now) }
 {
+    // As in `lists.rt`, that the number is below 64 is the closure's to ask.
     let keys: [_; 64] = array::from_fn(
         |i|
             requires { i < 64 }
