@@ -1,5 +1,5 @@
 -- One departure, and all of them, as the code makes them.
-use Rattle.std.proofs.Common.{◌≡◌, ℕ, zero, suc, ◌+◌, ◌≤◌, Some, None, Option, sym, refl, ap, ◌∙◌, arith}
+use Rattle.std.proofs.Common.{◌≡◌, ℕ, zero, suc, ◌+◌, ◌<◌, ◌≤◌, Some, None, Option, sym, refl, ap, ◌∙◌, arith}
 use Rattle.std.proofs.lemmas.Bool.{cond_both}
 use Rattle.model.specs.Departures.{departing, gone, active_rate, share, departed, depart, departures}
 use Rattle.model.specs.Session.{above_zero}
@@ -42,11 +42,15 @@ module _ (t : Table) (k : ℕ) (found : first departing t ≡ Some k) where
   no_more_owing = omega (arith, ap (λ (o : Option ℕ). owing (departed t o)) (sym found), depart_owes 1 t)
 
 -- one departure and then the others
-pub departures_more : (t : Table) (k : ℕ) → first departing t ≡ Some k → departures t ≡ departures (departed t (Some k))
-unfolding departures depart
-departures_more t k found =
-    let n : active_count t ≡ suc (active_count (departed t (Some k))) = omega (arith, once_fewer t k found) in
-    ap (λ (n : ℕ). depart n t) n ∙ ap (λ (o : Option ℕ). depart (active_count (departed t (Some k))) (departed t o)) found
+module _ (t : Table) (k : ℕ) (found : first departing t ≡ Some k) (u : Table) (after : u ≡ departed t (Some k)) where
+  pub fewer : active_count u < active_count t
+  fewer = omega (arith, ap active_count after, once_fewer t k found)
+
+  pub rest : departures u ≡ departures t
+  unfolding departures depart
+  rest =
+      let n : active_count t ≡ suc (active_count (departed t (Some k))) = omega (arith, once_fewer t k found) in
+      ap departures after ∙ sym (ap (λ (n : ℕ). depart n t) n ∙ ap (λ (o : Option ℕ). depart (active_count (departed t (Some k))) (departed t o)) found)
 
 -- nobody departs
 still : (n : ℕ) (t : Table) → first departing t ≡ None → depart n t ≡ t

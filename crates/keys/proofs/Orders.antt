@@ -56,8 +56,8 @@ int_first m n = grind (arith, ints)
 pub time_first : lt_by_cmp (on (λ (t : VirtualTime). t.0) nat_cmp) ≡ time_before
 time_first = λ i x y. nat_first x.0 y.0 i
 
-pub debt_first : lt_by_cmp (flip_args (on (λ (d : Debt). d.0) int_cmp)) ≡ debt_before
-debt_first = λ i x y. int_first y.0 x.0 i
+pub debt_first : lt_by_cmp (flip_args (on (λ (d : Debt). d.0.0) int_cmp)) ≡ debt_before
+debt_first = λ i x y. int_first y.0.0 x.0.0 i
 
 pub count_first : lt_by_cmp (on (λ (c : Count). c.0) nat_cmp) ≡ count_before
 count_first = λ i x y. nat_first x.0 y.0 i
@@ -66,7 +66,7 @@ pub time_order : IsStrictWeakOrder time_before
 time_order = subst IsStrictWeakOrder time_first (strict_from_total (on_total (λ t. t.0) nat_cmp_total))
 
 pub debt_order : IsStrictWeakOrder debt_before
-debt_order = subst IsStrictWeakOrder debt_first (strict_from_total (back_total (on_total (λ d. d.0) int_cmp_total)))
+debt_order = subst IsStrictWeakOrder debt_first (strict_from_total (back_total (on_total (λ d. d.0.0) int_cmp_total)))
 
 pub count_order : IsStrictWeakOrder count_before
 count_order = subst IsStrictWeakOrder count_first (strict_from_total (on_total (λ c. c.0) nat_cmp_total))

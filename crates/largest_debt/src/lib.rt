@@ -11,6 +11,7 @@ ghost use Rattle.largest_debt.specs.Laws.{largest_is_offered};
 use chooser::{Chooser, Entry, Line, Offer};
 use keys::{Debt, least};
 use std::array;
+use std::cmp::Reverse;
 
 // It holds nothing: the offer says all that it goes by.
 #[derive(Clone, Copy)]
@@ -22,7 +23,7 @@ fn debt_of(entry: Entry) -> Debt
     requires price { entry.price ≤ 720720 }
     ensures { result ≡ debt (entry.lag *ℤ pos entry.price) }
 {
-    Debt(entry.lag * i64::from(entry.price))
+    Debt(Reverse(entry.lag * i64::from(entry.price)))
 }
 
 // The debt of a place, if it is offered.

@@ -1,13 +1,12 @@
 -- What the model says of a table is what the library says of a chain over its rows.
-use Rattle.std.proofs.Common.{◌≡◌, ℕ, ◌+◌, ◌<◌, max, Bool, true, false, cond, not, ◌&&◌, ◌||◌, List, [], ◌∷◌, length, IfSome, Some, None, Option, refl, sym, ap, ◌∙◌, arith}
+use Rattle.std.proofs.Common.{◌≡◌, ℕ, ◌+◌, max, Bool, true, false, cond, not, ◌&&◌, ◌||◌, List, [], ◌∷◌, Some, None, Option, refl, sym, ap, ◌∙◌, arith}
 use Rattle.std.proofs.lemmas.Iterator.Adapters.{position_from-zero}
 use Rattle.std.proofs.lemmas.List.Recursion.{is_sum_by}
 use Rattle.std.specs.List.{fold, sum_by, list_any, position, position_from, zip}
 use Rattle.std.specs.Option.{option_map}
-use Rattle.model.proofs.Tables.{first_found}
 use Rattle.model.specs.Lists.{Line, in_line}
 use Rattle.model.specs.Session.{Session}
-use Rattle.model.specs.Table.{Table, first, next, total, least, sooner, greatest, is_none, none_active}
+use Rattle.model.specs.Table.{first, next, total, least, sooner, greatest, is_none, none_active}
 use Rattle.session.specs.Seen.{seen}
 use Rattle.session.specs.declared.row.Row.{Row}
 use Rattle.table.specs.Joiners.{any_joins}
@@ -47,10 +46,6 @@ module _ (p : Session → Bool) where
 
   pub first_of : (rows : List Row) → first p (table_of rows) ≡ position (λ r. p (seen r)) rows
   first_of rows = sym (position_from-zero (λ r. p (seen r)) rows ∙ first_from rows 0 ∙ from_zero (first p (table_of rows)))
-
-  pub first_inside : (t : Table) (o : Option ℕ) → length t ≡ 64 → o ≡ first p t → IfSome o (λ k. k < 64)
-  first_inside t None n e = tt
-  first_inside t (Some k) n e = omega (arith, (first_found p t k (sym e)).0)
 
 -- ---- whether one passes a test
 

@@ -1,18 +1,28 @@
 // Who departs, and by what rates the others share what it was owed.
-ghost use Rattle.std.specs.Prelude.{◌≡◌};
+ghost use Rattle.std.specs.Prelude.{◌≡◌, ◌<◌, IfSome, length, position};
 ghost use Rattle.chooser.specs.Places.{numbers};
 ghost use Rattle.model.specs.Departures.{departing, active_rate};
 ghost use Rattle.model.specs.Table.{first, total};
+ghost use Rattle.session.specs.Seen.{seen};
 ghost use Rattle.table.specs.Places.{table_of};
 
 use chooser::Place;
 use session::Row;
 
 // The lowest place that departs.
+#[tactic(auto, using(crate::proofs::Chains::first_of))]
 pub fn first_to_depart(rows: &[Row; 64]) -> Option<Place>
     ensures { numbers result ≡ first departing (table_of rows.now) }
 {
-    rows.iter().position(Row::departs).and_then(Place::new)
+    first_departing(rows).and_then(Place::new)
+}
+
+// Its index.
+fn first_departing(rows: &[Row]) -> Option<usize>
+    ensures inside { IfSome result (λ i. i < length rows.now) }
+    ensures is { result ≡ position (λ row. departing (seen row)) rows.now }
+{
+    rows.iter().position(Row::departs)
 }
 
 // The rates of the active sessions together.

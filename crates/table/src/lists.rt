@@ -1,8 +1,9 @@
 // The two lists from which a chooser picks.
-ghost use Rattle.std.specs.Prelude.{◌≡◌, ◌<◌, false, slice_index_or};
+ghost use Rattle.std.specs.Prelude.{◌≡◌, ◌<◌, false, not, ◌&&◌, slice_index_or};
+ghost use Rattle.std.specs.List.{list_any, zip};
 ghost use Rattle.model.specs.Lists.{in_line, in_list, stayed};
 ghost use Rattle.model.specs.Table.{at};
-ghost use Rattle.session.specs.Seen.{stay};
+ghost use Rattle.session.specs.Seen.{seen, stay};
 ghost use Rattle.table.specs.Joiners.{any_joins};
 ghost use Rattle.table.specs.Places.{table_of};
 
@@ -23,9 +24,17 @@ pub fn members(rows: &[Row; 64], line: Line) -> [bool; 64]
     )
 }
 
-// Whether a place is in a list now that was not.
+// Whether a place is in a list now that was not. (A line and who stood in it come apart: a pair would be made for each call and taken apart there.)
+#[tactic(auto, using(crate::proofs::Chains::joins_of))]
 pub fn anybody_joined(rows: &[Row; 64], line: Line, before: &[bool; 64]) -> bool
     ensures { result ≡ any_joins line before.now (table_of rows.now) }
+{
+    any_joiner(rows, line, before)
+}
+
+// A function of its own: its clause mirrors the chain, which then needs no proof by hand.
+fn any_joiner(rows: &[Row], line: Line, before: &[bool]) -> bool
+    ensures { result ≡ list_any (λ place. not place.1 && in_line line (seen place.0)) (zip rows.now before.now) }
 {
     rows.iter()
         .zip(before)

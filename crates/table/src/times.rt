@@ -1,5 +1,6 @@
 // Virtual times: who is due, and where the mark is.
 ghost use Rattle.std.specs.Prelude.{◌≡◌, ◌<◌, slice_index_or};
+ghost use Rattle.std.specs.List.{list_any};
 ghost use Rattle.std.specs.Option.{option_map};
 ghost use Rattle.chooser.specs.Places.{numbers};
 ghost use Rattle.model.specs.Cell.{mark_from};
@@ -21,6 +22,7 @@ pub fn due(rows: &[Row; 64]) -> Option<Place>
     ensures soonest { (d : Row) → option_map (λ place. (slice_index_or rows.now place.number d).virtual_time) result ≡
         least (table_of rows.now) }
 {
+    // As in `lists.rt`, that the number is below 64 is the closure's to ask.
     let keys: [_; 64] = array::from_fn(
         |i|
             requires { i < 64 }
@@ -31,10 +33,17 @@ pub fn due(rows: &[Row; 64]) -> Option<Place>
 }
 
 // Whether no place is active.
+#[tactic(auto, using(crate::proofs::Chains::idle_of))]
 pub fn nobody_active(rows: &[Row; 64]) -> bool
     ensures { result ≡ none_active (table_of rows.now) }
 {
-    !rows.iter().any(|row| row.active)
+    !anybody_active(rows)
+}
+
+fn anybody_active(rows: &[Row]) -> bool
+    ensures { result ≡ list_any (λ row. row.active) rows.now }
+{
+    rows.iter().any(|row| row.active)
 }
 
 // The smallest virtual time of the active places.

@@ -1,10 +1,10 @@
-use Rattle.std.proofs.Common.{◌≡◌, ℕ, sym, ap, ◌∙◌, arith}
-use Rattle.model.specs.Departures.{active_rate, share}
+use Rattle.std.proofs.Common.{◌≡◌, ℕ, Some, sym, ap, ◌∙◌, arith}
+use Rattle.model.specs.Departures.{active_rate, departed, share}
 use Rattle.model.specs.Table.{total, booked_total}
 use Rattle.model.proofs.Uses.{share_nothing, share_nobody}
 use Rattle.table.specs.Places.{table_of}
 use Rattle.departure.specs.Owing.{owing}
-use Rattle.departure.proofs.Releases.{rates_gone, owing_gone, same_booked, no_more_owing, departed_is}
+use Rattle.departure.proofs.Releases.{rates_gone, owing_gone, same_booked, no_more_owing, departed_is, fewer, rest}
 use Rattle.departure.specs.declared.midway.Midway.{Midway}
 use Rattle.departure.proofs.midway.Midway.release.Goals as goal
 use Rattle.departure.proofs.midway.Midway.release.Goals.{else-lag-gt0-via-then-lag-gt0+else-rates-gt0, else-lag-gt0-via-else-lag-gt0}
@@ -22,8 +22,10 @@ invariant_of-over c =
 
 pub returns-then-rates-gt0 : goal.returns-then-rates-gt0
 returns-then-rates-gt0 c =
-    c.over.ensures
-    ∙ departed_is (table_of c.args.self.now.rows) c.args.place.number _ _ _ c.end-lag.ensures.after c.end-lag.ensures.lag c.active_rates-rates.ensures
+    let t = table_of c.args.self.now.rows in
+    let k = c.args.place.number in
+    let after = c.over.ensures ∙ departed_is t k _ _ _ c.end-lag.ensures.after c.end-lag.ensures.lag c.active_rates-rates.ensures in
+    record { after = after; fewer = fewer t k c.requires _ after; rest = rest t k c.requires _ after }
 
 pub invariant_of-self : goal.invariant_of-self
 invariant_of-self c =
@@ -40,7 +42,10 @@ returns-else-lag-gt0 c =
     let lag = c.end-lag.result in
     let rates = c.active_rates-rates.result in
     let left = table_of c.end-lag.new.rows in
-    let is = departed_is (table_of c.args.self.now.rows) c.args.place.number _ _ _ c.end-lag.ensures.after c.end-lag.ensures.lag c.active_rates-rates.ensures in
+    let t = table_of c.args.self.now.rows in
+    let k = c.args.place.number in
+    let is = departed_is t k _ _ _ c.end-lag.ensures.after c.end-lag.ensures.lag c.active_rates-rates.ensures in
+    let after : table_of c.else-lag-gt0.self.rows ≡ departed t (Some k) =
     elim c.else-lag-gt0.branch [
       | else-lag-gt0-via-then-lag-gt0+else-rates-gt0 w ↦
           let none : rates ≡ 0 = omega (arith, w.if-rates-gt0.false) in
@@ -48,4 +53,5 @@ returns-else-lag-gt0 c =
       | else-lag-gt0-via-else-lag-gt0 w ↦
           let none : lag ≡ 0 = omega (arith, w.if-lag-gt0.false) in
           ap (λ (m : Midway). table_of m.rows) w.self-is ∙ sym (ap (λ (n : ℕ). share n rates 0 left) none ∙ share_nothing rates 0 left) ∙ is
-    ]
+    ] in
+    record { after = after; fewer = fewer t k c.requires _ after; rest = rest t k c.requires _ after }
