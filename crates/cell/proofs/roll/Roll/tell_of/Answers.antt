@@ -19,7 +19,7 @@ returns-then-not-stands_in g c =
     let off = ap (in_line line) (sym c.row_at.ensures) ∙ sym c.stands_in-then-stands_in.ensures ∙ c.if-not-stands_in.true in
     c.joined.ensures ∙ ap (λ k. g.C.Chooser.after_joined now line k c.all.result) c.index.ensures.is
     ∙ joined_is g.C.Chooser now line c.all.result _ c.all.ensures placed.place.number
-    ∙ sym (one_joins (meant g.C.Chooser) line (table_of roll.rows.now) placed.place.number (seen placed.row) now
+    ∙ sym (one_joins (meant g.C.Chooser) line (table_of roll.rows.now) placed.place.number (seen placed.held) now
     (omega (arith, roll.sized, placed.place.inside, length_table roll.rows.now)) is off)
 
 pub returns-else-stands_in : goal.returns-else-stands_in
@@ -27,7 +27,7 @@ returns-else-stands_in g c =
     let line = c.args.line in
     let roll = c.args.self.now in
     let placed = c.args.placed.now in
-    sym (none_joins (meant g.C.Chooser) line (table_of roll.rows.now) placed.place.number (seen placed.row) c.args.chooser.now
+    sym (none_joins (meant g.C.Chooser) line (table_of roll.rows.now) placed.place.number (seen placed.held) c.args.chooser.now
     (omega (arith, roll.sized, placed.place.inside, length_table roll.rows.now))
     (elim c.else-stands_in.branch [
       | else-stands_in-via-then-stands_in+else-not-stands_in w ↦

@@ -15,11 +15,11 @@ invariant_of-roll g c = let x = c.args.self.now in record { sized = rows_sized x
 
 pub invariant_of-self : goal.invariant_of-self
 invariant_of-self g c =
-    let is = put_told (meant g.C.Chooser) (view c.args.self.now) c.args.placed.place.number (seen c.args.placed.row) _ _ _ _ _
+    let is = put_told (meant g.C.Chooser) (view c.args.self.now) c.args.placed.place.number (seen c.args.placed.held) _ _ _ _ _
     c.nobody_active-idle.ensures c.tell_of.ensures c.tell_of-2.ensures c.set_row.ensures c.mark_after-self.ensures in
     record { ordered = subst (λ (y : Cell g.row.C.Denot). InOrder y.keep y.mark y.turns y.table) (sym is) ∣ c.requires ∣₁ }
 
 pub returns : goal.returns
 returns g c =
-    put_told (meant g.C.Chooser) (view c.args.self.now) c.args.placed.place.number (seen c.args.placed.row) _ _ _ _ _
+    put_told (meant g.C.Chooser) (view c.args.self.now) c.args.placed.place.number (seen c.args.placed.held) _ _ _ _ _
     c.nobody_active-idle.ensures c.tell_of.ensures c.tell_of-2.ensures c.set_row.ensures c.mark_after-self.ensures
