@@ -1,9 +1,8 @@
 // One place is changed, and the cell settles.
 ghost use Rattle.std.specs.Prelude.{◌≡◌};
 ghost use Rattle.model.specs.Meaning.{meant};
-ghost use Rattle.model.specs.Sound.{Sound};
 ghost use Rattle.session.specs.Seen.{seen};
-ghost use Rattle.cell.specs.Found.{joins_by, with_session};
+ghost use Rattle.cell.specs.Found.{joins_by, with_session, Ordered};
 ghost use Rattle.cell.specs.View.{view};
 ghost use Rattle.table.specs.Places.{table_of};
 
@@ -17,8 +16,9 @@ use table::{mark_after, nobody_active};
 
 impl<C: Chooser> Cell<C> {
     // Nobody but the session that is put there can join a list by that.
+    #[tactic(auto, using(crate::proofs::Joining::puts))]
     pub(crate) fn put(&mut self, placed: Placed<Row>)
-        requires { Sound
+        requires { Ordered
             (with_session (meant C.Chooser) (view self.old) placed.place.number (seen placed.held)) }
         ensures { view self.new ≡
             with_session (meant C.Chooser) (view self.old) placed.place.number
@@ -35,6 +35,7 @@ impl<C: Chooser> Cell<C> {
 
 impl Roll<'_> {
     // Tells of the place at which a row is going to be put, if it joins a list by that. Whoever is in the list now, stays.
+    #[tactic(auto, using(crate::proofs::Joining::tells_of))]
     fn tell_of<C: Chooser>(&self, chooser: &mut C, line: Line, placed: &Placed<Row>)
         ensures { chooser.new ≡
             joins_by (meant C.Chooser) line (table_of self.now.rows.now) placed.now.place.number

@@ -20,7 +20,7 @@ invariant_of-self g c =
     let a = turn_accepted (view x) _ c.in_ok-chosen.ensures (books x.ordered) in
     let law = lawful g.C.Chooser g.met.C.Chooser.picks in
     let makes = turn_makes M law _ _ (table_of x.rows) x.chooser _ a c.pass-turn.result _ _ _ p.answer p.after p.marked p.told in
-    record { ordered = ∣ in_order M (view x) _ _ _ makes law (books x.ordered) ∣₁ }
+    record { ordered = in_order M (view x) _ _ _ makes law (books x.ordered) }
 
 pub returns : goal.returns
 returns g c =
