@@ -1,4 +1,5 @@
-// How the turn of the chosen session goes.
+// How the turn of the chosen session goes. It is decided once and read twice, by the turn and by the telling.
+// Tried as closures: `decide` would have to say of each with what it is called and what it leaves, which is this enum in its clauses.
 use chooser::Place;
 
 // Where the turn is handed on, with the place that gets it.
