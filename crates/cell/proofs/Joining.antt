@@ -16,7 +16,7 @@ use Rattle.session.specs.declared.row.Row.{Row}
 use Rattle.table.proofs.Tables.{length_table}
 use Rattle.table.specs.Joiners.{any_joins}
 use Rattle.table.specs.Places.{table_of}
-use Rattle.cell.specs.Found.{joins_by, with_session, Ordered}
+use Rattle.cell.specs.Found.{joins_by, with_session, BooksInOrder}
 use Rattle.cell.proofs.Asking.{stayed_members}
 use Rattle.cell.proofs.Rows.{rows_sized, can_be_offered}
 use Rattle.cell.proofs.Telling.{joined_is}
@@ -118,7 +118,7 @@ module _ {C : Type 0} (M : Meaning C) (keep mark turns : ℕ) (t : Table) (c : C
       let told = q ∙ ap (joins_by M Extra t place s) p in
       (λ i. record { keep = keep; mark = is_mark i; turns = turns; table = left i; chooser = told i })
 
-  pub put_ordered : Ordered (with_session M x place s) → InOrder keep m turns now
-  put_ordered = subst Ordered (sym put_leaves)
+  pub put_ordered : BooksInOrder (with_session M x place s) → InOrder keep m turns now
+  put_ordered = subst BooksInOrder (sym put_leaves)
 
 pub ruleset puts = (put_leaves, put_ordered, rows_sized, can_be_offered)

@@ -36,5 +36,5 @@ abbrev pub with_session : {C : Type 0} → Meaning C → Cell C → ℕ → Sess
 with_session M x place s = settled M x (change x.table place (λ _. s)) x.turns x.chooser
 
 -- a cell whose books are in order
-abbrev pub Ordered : {C : Type 0} → Cell C → Type 0
-Ordered x = InOrder x.keep x.mark x.turns x.table
+abbrev pub BooksInOrder : {C : Type 0} → Cell C → Type 0
+BooksInOrder x = InOrder x.keep x.mark x.turns x.table

@@ -2,7 +2,7 @@
 ghost use Rattle.std.specs.Prelude.{◌≡◌};
 ghost use Rattle.model.specs.Meaning.{meant};
 ghost use Rattle.session.specs.Seen.{seen};
-ghost use Rattle.cell.specs.Found.{joins_by, with_session, Ordered};
+ghost use Rattle.cell.specs.Found.{joins_by, with_session, BooksInOrder};
 ghost use Rattle.cell.specs.View.{view};
 ghost use Rattle.table.specs.Places.{table_of};
 
@@ -18,7 +18,7 @@ impl<C: Chooser> Cell<C> {
     // Nobody but the session that is put there can join a list by that.
     #[tactic(auto, using(crate::proofs::Joining::puts))]
     pub(crate) fn put(&mut self, placed: Placed<Row>)
-        requires { Ordered
+        requires { BooksInOrder
             (with_session (meant C.Chooser) (view self.old) placed.place.number (seen placed.held)) }
         ensures { view self.new ≡
             with_session (meant C.Chooser) (view self.old) placed.place.number

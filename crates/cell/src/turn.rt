@@ -49,6 +49,7 @@ impl<C: Chooser> Cell<C> {
     }
 
     // The turn of the place that is next, from who sends in it to who joined a list by it.
+    // Midway the books are not in order, so the steps take parts of the cell and not the cell.
     fn pass(&mut self, chosen: Place) -> Turn
         requires { Ok chosen.number ≡ unless (refusal (view self.old) a_turn) (found (chosen_of (view self.old).table)) }
         ensures answer { Ok (Turned result) ≡ (step (meant C.Chooser) (view self.old) a_turn).answer }
