@@ -1,16 +1,25 @@
 -- Who joins a list: nobody, and the one session that a call changes.
-use Rattle.std.proofs.Common.{◌≡◌, ℕ, zero, suc, ◌+◌, ◌<◌, Bool, true, false, cond, not, ◌&&◌, ◌||◌, ◌⊎◌, inl, inr, List, [], ◌∷◌, length, set, None, Option, sym, refl, ap, ◌∙◌, arith}
+use Rattle.std.proofs.Common.{◌≡◌, ℕ, zero, suc, ◌+◌, ◌<◌, Bool, true, false, cond, not, ◌&&◌, ◌||◌, ◌⊎◌, inl, inr, List, [], ◌∷◌, length, slice_set, None, Option, sym, refl, ap, ◌∙◌, subst, arith}
 use Rattle.std.proofs.Math.Bool.{and_self, not-and_self, and_comm}
 use Rattle.std.proofs.lemmas.Bool.{and_from, or_parts, cond-true, cond-false}
+use Rattle.chooser.specs.declared.Chooser.{Ghosts}
+use Rattle.chooser.specs.declared.offer.Offer.{Offer}
 use Rattle.model.proofs.Tables.{change_is}
 use Rattle.model.specs.Cell.{Cell, told, joins, mark_from, mark_after, all_joins, settled}
 use Rattle.model.specs.Lists.{Entry, Line, Credit, Extra, in_line, in_list, entry, offer, stayed}
-use Rattle.model.specs.Meaning.{Meaning}
+use Rattle.model.specs.Limits.{places}
+use Rattle.model.specs.Meaning.{Meaning, meant}
 use Rattle.model.specs.Session.{Session}
+use Rattle.model.specs.Sound.{InOrder}
 use Rattle.model.specs.Table.{Table, at, change, least, greatest, none_active}
+use Rattle.session.specs.declared.row.Row.{Row}
+use Rattle.table.proofs.Tables.{length_table}
 use Rattle.table.specs.Joiners.{any_joins}
-use Rattle.cell.specs.Found.{joins_by, with_session}
+use Rattle.table.specs.Places.{table_of}
+use Rattle.cell.specs.Found.{joins_by, with_session, BooksInOrder}
 use Rattle.cell.proofs.Asking.{stayed_members}
+use Rattle.cell.proofs.Rows.{rows_sized, can_be_offered}
+use Rattle.cell.proofs.Telling.{joined_is}
 
 -- those who stay, where one place is changed that was not in the list, are all who were in it
 stayed_one : (l : Line) (t : Table) (i : ℕ) (s : Session) → in_line l (at t i) ≡ false →
@@ -76,14 +85,40 @@ module _ {C : Type 0} (M : Meaning C) (l : Line) where
     none_joins (inl out) = heard ∙ cond-false _ _ _ (ap (λ b. not (in_line l (at t i)) && b) out ∙ and_comm _ false)
     none_joins (inr was) = heard ∙ ap (λ b. cond (not b && in_line l s) (M.joined c l i (stayed l (in_list l t) (change t i (λ _. s)))) c) was
 
--- a session that is put at a place, of which the chooser has heard list by list
-pub put_told : {C : Type 0} (M : Meaning C) (x : Cell C) (place : ℕ) (s : Session) (none : Bool) (now : Table) (m : ℕ) (d e : C) →
-    none ≡ none_active x.table → d ≡ joins_by M Credit x.table place s x.chooser → e ≡ joins_by M Extra x.table place s d →
-    now ≡ set x.table place s → m ≡ mark_from (least now) none (greatest now) x.mark →
-    ◌≡◌ {A = Cell C} (record { keep = x.keep; mark = m; turns = x.turns; table = now; chooser = e }) (with_session M x place s)
-unfolding settled mark_after all_joins
-put_told M x place s none now m d e idle p q is marked =
-    let left = is ∙ sym (change_is x.table place (λ _. s)) in
-    let mark = marked ∙ (λ i. mark_from (least (left i)) (idle i) (greatest (left i)) x.mark) in
-    let told = q ∙ ap (joins_by M Extra x.table place s) p in
-    (λ i. record { keep = x.keep; mark = mark i; turns = x.turns; table = left i; chooser = told i })
+-- where it is put at a place of the code's rows, as a chooser of the code hears of it
+module _ {C : Type 0} (g : Ghosts C) (c : C) (l : Line) (rows : List Row) (i : ℕ) (s : Session) (sized : length rows ≡ places) (inside : i < places) where
+  there : i < length (table_of rows)
+  there = omega (arith, sized, inside, length_table rows)
+
+  pub joiner_told : (d : C) (k : ℕ) (o : Offer) → d ≡ g.after_joined c l k o → k ≡ i → o.entries ≡ offer l (table_of rows) →
+      in_line l s ≡ true → in_line l (at (table_of rows) i) ≡ false → d ≡ joins_by (meant g) l (table_of rows) i s c
+  joiner_told d k o told here is new off =
+      told ∙ ap (λ k. g.after_joined c l k o) here ∙ joined_is g c l o _ is i ∙ sym (one_joins (meant g) l (table_of rows) i s c there new off)
+
+  pub outsider_untold : in_line l s ≡ false → c ≡ joins_by (meant g) l (table_of rows) i s c
+  outsider_untold out = sym (none_joins (meant g) l (table_of rows) i s c there (inl out))
+
+  pub member_untold : in_line l (at (table_of rows) i) ≡ true → c ≡ joins_by (meant g) l (table_of rows) i s c
+  member_untold was = sym (none_joins (meant g) l (table_of rows) i s c there (inr was))
+
+pub ruleset tells_of = (joiner_told, outsider_untold, member_untold)
+
+-- a session that is put at a place of a cell, of which the chooser has heard list by list: d is what it is after the first
+module _ {C : Type 0} (M : Meaning C) (keep mark turns : ℕ) (t : Table) (c : C) (place : ℕ) (s : Session) (none : Bool) (now : Table) (m : ℕ) (d e : C)
+    (idle : none ≡ none_active t) (p : d ≡ joins_by M Credit t place s c) (q : e ≡ joins_by M Extra t place s d)
+    (is : now ≡ slice_set t place s) (marked : m ≡ mark_from (least now) none (greatest now) mark) where
+  abbrev x : Cell C
+  x = record { keep = keep; mark = mark; turns = turns; table = t; chooser = c }
+
+  pub put_leaves : ◌≡◌ {A = Cell C} (record { keep = keep; mark = m; turns = turns; table = now; chooser = e }) (with_session M x place s)
+  unfolding settled mark_after all_joins
+  put_leaves =
+      let left = is ∙ sym (change_is t place (λ _. s)) in
+      let is_mark = marked ∙ (λ i. mark_from (least (left i)) (idle i) (greatest (left i)) mark) in
+      let told = q ∙ ap (joins_by M Extra t place s) p in
+      (λ i. record { keep = keep; mark = is_mark i; turns = turns; table = left i; chooser = told i })
+
+  pub put_ordered : BooksInOrder (with_session M x place s) → InOrder keep m turns now
+  put_ordered = subst BooksInOrder (sym put_leaves)
+
+pub ruleset puts = (put_leaves, put_ordered, rows_sized, can_be_offered)

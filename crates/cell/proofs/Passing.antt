@@ -1,5 +1,5 @@
 -- A turn that is accepted: what the books say of it before, in its midst and after it.
-use Rattle.std.proofs.Common.{◌≡◌, ℕ, ◌+◌, ◌<◌, Bool, true, false, cond, leb, IfSome, Some, None, Ok, Option, sym, refl, ap, ◌∙◌, subst, arith}
+use Rattle.std.proofs.Common.{◌≡◌, ℕ, ◌+◌, ◌<◌, Bool, true, false, cond, leb, List, length, IfSome, Some, None, Ok, Option, sym, refl, ap, ◌∙◌, subst, arith}
 use Rattle.std.proofs.lemmas.Bool.{lt-leb, leb-false}
 use Rattle.answer.specs.declared.refusal.Refusal.TheVariants.{NoneActive, TurnsUsedUp}
 use Rattle.answer.specs.declared.turn.Answer.TheVariants.{Turn as Turned}
@@ -8,9 +8,9 @@ use Rattle.chooser.specs.Offers.{lag_bound}
 use Rattle.model.specs.Calls.{turn, refusal, found, decide, heard, Outcome, turn_after, turn_of, accepted, outcome, step}
 use Rattle.model.specs.Cell.{Cell, mark_after, all_joins, settled}
 use Rattle.model.specs.Departures.{departures}
-use Rattle.model.specs.Limits.{most_turns}
+use Rattle.model.specs.Limits.{places, most_turns}
 use Rattle.model.specs.Meaning.{Meaning, Lawful}
-use Rattle.model.specs.Sound.{Midway, Sound}
+use Rattle.model.specs.Sound.{Books, Midway, Sound}
 use Rattle.model.specs.Table.{Table, at, change, is_none, none_active, chosen}
 use Rattle.model.specs.Turn.{Way, by_right, by_allowance, by_credit, unclaimed, by_extra, idle, sender, length_of, answer_of, hands_on, takes_up, turned}
 use Rattle.model.proofs.Books.{ordered_of, step_sound}
@@ -19,11 +19,14 @@ use Rattle.model.proofs.Tables.{change_same}
 use Rattle.model.proofs.Senders.{Rightly, decides}
 use Rattle.model.proofs.Turn.{apart_credit, apart_extra}
 use Rattle.model.proofs.Uses.{lag_low, stayed_sound, turn_midway}
+use Rattle.session.specs.declared.row.Row.{Row}
 use Rattle.table.proofs.Dues.{idle_is}
-use Rattle.cell.specs.Found.{Offerable}
+use Rattle.table.proofs.Tables.{length_table}
+use Rattle.table.specs.Places.{table_of}
+use Rattle.cell.specs.Found.{Offerable, before_of, mark_left, joins_left}
+use Rattle.cell.specs.declared.before.Before.{Before}
 use Rattle.cell.specs.Plans.{unless}
 use Rattle.cell.specs.Room.{HasRoom}
-use Rattle.cell.specs.Turns.{Accepted}
 use Rattle.cell.specs.Ways.{handed_to, only}
 use Rattle.cell.proofs.Steps.{Makes, makes_of, planned}
 
@@ -53,6 +56,13 @@ heard_after M ch keep n t c (by_extra q) = ap (M.served ch _ q n) (pair_price ke
 heard_after M ch keep n t c idle = refl
 
 -- ---- the turn
+
+-- the books are in order, a turn is left, and it is that of place c
+pub record Accepted (keep mark : ℕ) (t : Table) (c : ℕ) : Type 0 where
+  pub turns : ℕ
+  pub left : turns < most_turns
+  pub books : Books keep mark turns t
+  pub next : chosen t ≡ Some c
 
 -- what is refused neither for want of an active session nor for want of turns
 not_refused : (x y : Bool) → cond x (Some NoneActive) (cond y (Some TurnsUsedUp) None) ≡ None → (x ≡ false) × (y ≡ false)
@@ -136,3 +146,21 @@ module _ {C : Type 0} (M : Meaning C) (law : Lawful M) (keep mark : ℕ) (t : Ta
       can_offer_after u v e d =
           let is_left = ap (λ (o : Outcome M). o.cell.table) turn_is in
           subst Offerable (is_left ∙ sym (d ∙ ap departures (e ∙ left))) (stayed_sound (step_sound M law cell turn a.books))
+
+      -- and once it has gone its way, the chooser has heard of it and of who joined, and the mark has followed: as the code says it, list by list
+      pub passed : (before : Before) (u v : Table) (m : ℕ) (served joined : C) → before ≡ before_of t → u ≡ turned keep t c r.length w →
+          served ≡ heard M (only ch u) w r.length → v ≡ departures u → m ≡ mark_left before v mark → joined ≡ joins_left M before v served →
+          Makes M cell turn (Ok (Turned r)) (record { keep = keep; mark = m; turns = a.turns + 1; table = v; chooser = joined })
+      unfolding mark_after all_joins
+      passed before u v m served joined b e hears d marks tells =
+          let hears_so = hears ∙ ap (λ (u : Table). heard M (only ch u) w r.length) e ∙ heard_after M ch keep r.length t c w ∙ ap (λ (w : Way). heard M (only ch t) w r.length) is in
+          turn_makes r v m joined (answered ∙ ap (answer_of t c) is) (d ∙ ap departures (e ∙ ap (turned keep t c r.length) is))
+          (marks ∙ ap (λ (b : Before). mark_left b v mark) b)
+          (tells ∙ ap (λ (b : Before). joins_left M b v served) b ∙ ap (joins_left M (before_of t) v) hears_so)
+
+      pub sized_after : (u : Table) (rows : List Row) → u ≡ turned keep t c r.length w → table_of rows ≡ departures u → length rows ≡ places
+      unfolding turn_after settled
+      sized_after u rows e d =
+          let is_left = ap (λ (o : Outcome M). o.cell.table) turn_is in
+          sym (length_table rows)
+          ∙ subst (λ (v : Table). length v ≡ places) (is_left ∙ sym (d ∙ ap departures (e ∙ left))) (step_sound M law cell turn a.books).size

@@ -14,7 +14,7 @@ use Rattle.model.specs.Session.{Frame, Session, vacant, fresh, with_good}
 use Rattle.model.specs.Sound.{Sound}
 use Rattle.model.specs.Table.{Table, at, change}
 use Rattle.tariff.specs.Tariff.{price_of}
-use Rattle.cell.specs.Found.{with_chooser, with_session}
+use Rattle.cell.specs.Found.{with_chooser, with_session, BooksInOrder}
 use Rattle.cell.specs.Plans.{unless, plan}
 
 -- ---- a plan, taken apart
@@ -42,8 +42,8 @@ module _ {C : Type 0} (M : Meaning C) (x : Cell C) where
     pub answer : r ≡ (step M x call).answer
     pub cell : y ≡ (step M x call).cell
 
-  pub in_order : (call : Call) (r : Result Answer Refusal) (y : Cell C) → Makes call r y → Lawful M → Sound x → Sound y
-  in_order call r y m law b = subst Sound (sym m.cell) (step_sound M law x call b)
+  pub in_order : (call : Call) (r : Result Answer Refusal) (y : Cell C) → Makes call r y → Lawful M → Sound x → BooksInOrder y
+  in_order call r y m law b = ∣ subst Sound (sym m.cell) (step_sound M law x call b) ∣₁
 
   pub makes_of : (call : Call) (o : Outcome M) → step M x call ≡ o → Makes call o.answer o.cell
   makes_of call o is = record { answer = sym (ap (λ (o : Outcome M). o.answer) is); cell = sym (ap (λ (o : Outcome M). o.cell) is) }

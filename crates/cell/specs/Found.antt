@@ -6,6 +6,7 @@ use Rattle.model.specs.Limits.{places}
 use Rattle.model.specs.Lists.{Line, Credit, Extra, in_list, stayed}
 use Rattle.model.specs.Meaning.{Meaning}
 use Rattle.model.specs.Session.{Session}
+use Rattle.model.specs.Sound.{InOrder}
 use Rattle.model.specs.Table.{Table, change, least, greatest, none_active}
 use Rattle.cell.specs.declared.before.Before.{Before}
 
@@ -33,3 +34,7 @@ with_chooser x c = record { keep = x.keep; mark = x.mark; turns = x.turns; table
 -- a cell in which a call leaves session s at a place, and has settled
 abbrev pub with_session : {C : Type 0} → Meaning C → Cell C → ℕ → Session → Cell C
 with_session M x place s = settled M x (change x.table place (λ _. s)) x.turns x.chooser
+
+-- a cell whose books are in order
+abbrev pub BooksInOrder : {C : Type 0} → Cell C → Type 0
+BooksInOrder x = InOrder x.keep x.mark x.turns x.table

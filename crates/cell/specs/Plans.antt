@@ -6,11 +6,12 @@ use Rattle.model.specs.Cell.{Cell}
 use Rattle.model.specs.Session.{Session}
 use Rattle.model.specs.Table.{at}
 use Rattle.session.specs.Seen.{seen}
+use Rattle.session.specs.declared.row.Row.{Row}
 use Rattle.cell.specs.declared.placed.Placed.{Placed}
 
 -- a row that was found or made, as its place and the session that it stands for
-abbrev pub sessions : Result Placed Refusal → Result (ℕ × Session) Refusal
-sessions (Ok p) = Ok (p.place.number, seen p.row)
+abbrev pub sessions : Result (Placed Row) Refusal → Result (ℕ × Session) Refusal
+sessions (Ok p) = Ok (p.place.number, seen p.held)
 sessions (Err why) = Err why
 
 -- what a call is about, unless something refuses it

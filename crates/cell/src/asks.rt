@@ -17,7 +17,7 @@ impl<C> Cell<C> {
     pub fn session(&self, place: u8) -> Result<Standing, Refusal>
         ensures { result ≡ standings (asked (view self.now) place) }
     {
-        let Placed { row, .. } = self.opened(place)?;
+        let Placed { held: row, .. } = self.opened(place)?;
         Ok(Standing::from(&row))
     }
 
@@ -25,7 +25,7 @@ impl<C> Cell<C> {
     pub fn frame(&self, place: u8, i: usize) -> Result<Option<Frame>, Refusal>
         ensures { result ≡ frames (asked (view self.now) place) i }
     {
-        let Placed { row, .. } = self.opened(place)?;
+        let Placed { held: row, .. } = self.opened(place)?;
         Ok(row.queue.get(i))
     }
 

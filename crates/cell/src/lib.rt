@@ -7,7 +7,6 @@ mod calls;
 mod decide;
 mod leave;
 mod offers;
-mod party;
 mod placed;
 mod plans;
 mod put;

@@ -1,10 +1,9 @@
-// A row with its place.
+// What belongs to a place, with the place.
 use chooser::Place;
-use session::Row;
 
-// As it was found there, or as it is to be put there.
+// It is a row as it was found there or is to be put there, or the account of who has a part in a turn.
 #[derive(Clone, Copy)]
-pub(crate) struct Placed {
+pub(crate) struct Placed<T> {
     pub(crate) place: Place,
-    pub(crate) row: Row,
+    pub(crate) held: T,
 }

@@ -23,30 +23,30 @@ const LONGEST: u16 = 1536;
 
 impl<C> Cell<C> {
     // The row of a place, open or not.
-    fn found(&self, place: u8) -> Result<Placed, Refusal>
+    fn found(&self, place: u8) -> Result<Placed<Row>, Refusal>
         ensures { sessions result ≡ cond (nat_le places place) (Err PlaceTooHigh) (Ok (place, at (view self.now).table place)) }
     {
         let place = Place::new(usize::from(place)).ok_or(Refusal::PlaceTooHigh)?;
-        let row = *row_at(&self.rows, place);
-        Ok(Placed { place, row })
+        let held = *row_at(&self.rows, place);
+        Ok(Placed { place, held })
     }
 
     // The row of an open place.
-    pub(crate) fn opened(&self, place: u8) -> Result<Placed, Refusal>
+    pub(crate) fn opened(&self, place: u8) -> Result<Placed<Row>, Refusal>
         ensures { sessions result ≡ opened (view self.now) place }
     {
         let found = self.found(place)?;
-        if !found.row.booked {
+        if !found.held.booked {
             return Err(Refusal::PlaceNotOpen);
         }
         Ok(found)
     }
 
-    pub(crate) fn opening(&self, place: u8, rate: u32) -> Result<Placed, Refusal>
+    pub(crate) fn opening(&self, place: u8, rate: u32) -> Result<Placed<Row>, Refusal>
         ensures { sessions result ≡ plan (view self.now) (opening place rate) place (fresh rate (price_of rate)) }
     {
         let found = self.found(place)?;
-        if found.row.booked {
+        if found.held.booked {
             return Err(Refusal::PlaceOpen);
         }
         let booked = Rate::try_from(rate)?;
@@ -55,14 +55,14 @@ impl<C> Cell<C> {
         }
         Ok(Placed {
             place: found.place,
-            row: Row::fresh(booked),
+            held: Row::fresh(booked),
         })
     }
 
-    pub(crate) fn closing(&self, place: u8) -> Result<Placed, Refusal>
+    pub(crate) fn closing(&self, place: u8) -> Result<Placed<Row>, Refusal>
         ensures { sessions result ≡ plan (view self.now) (closing place) place vacant }
     {
-        let Placed { place, row } = self.opened(place)?;
+        let Placed { place, held: row } = self.opened(place)?;
         if row.active {
             return Err(Refusal::SessionActive);
         }
@@ -71,11 +71,11 @@ impl<C> Cell<C> {
         }
         Ok(Placed {
             place,
-            row: Row::vacant(),
+            held: Row::vacant(),
         })
     }
 
-    pub(crate) fn arrival(&self, place: u8, frame: Frame) -> Result<Placed, Refusal>
+    pub(crate) fn arrival(&self, place: u8, frame: Frame) -> Result<Placed<Row>, Refusal>
         ensures { sessions result ≡
             plan (view self.now) (arrival place frame.tag frame.length) place
             (arrived self.now.mark frame (at (view self.now).table place)) }
@@ -84,17 +84,17 @@ impl<C> Cell<C> {
         if frame.length == 0 || frame.length > LONGEST {
             return Err(Refusal::LengthOutOfRange);
         }
-        found.row.receive(frame, self.mark)?;
+        found.held.receive(frame, self.mark)?;
         Ok(found)
     }
 
-    pub(crate) fn reported(&self, place: u8, good: bool) -> Result<Placed, Refusal>
+    pub(crate) fn reported(&self, place: u8, good: bool) -> Result<Placed<Row>, Refusal>
         ensures { sessions result ≡
             plan (view self.now) (report place good) place
             (with_good good (at (view self.now).table place)) }
     {
         let mut found = self.opened(place)?;
-        found.row.report(good);
+        found.held.report(good);
         Ok(found)
     }
 }

@@ -8,7 +8,7 @@ ghost use Rattle.table.specs.Places.{table_of};
 ghost use Rattle.cell.specs.Room.{HasRoom};
 ghost use Rattle.cell.specs.Ways.{way_as, handed_to, turn_with};
 
-use super::party::Party;
+use super::placed::Placed;
 use super::row::{row_at, set_row};
 use super::way::Way;
 use account::Account;
@@ -31,51 +31,51 @@ pub(crate) fn carry_out(rows: &mut [Row; 64], keep: u8, chosen: Place, way: Way)
     ensures answer { result ≡ answer_of (table_of rows.old) chosen.number (way_as way) }
     ensures after { table_of rows.new ≡ turned keep (table_of rows.old) chosen.number result.length (way_as way) }
 {
-    let chosen = party(rows, chosen);
+    let chosen = account_at(rows, chosen);
     match way {
         Way::ByRight => chosen.send(keep, 0, Kind::Normal, rows),
         Way::ByAllowance => chosen.send(keep, QUARTERS, Kind::Normal, rows),
-        Way::ByCredit(place) => chosen.hand_to(party(rows, place), keep, Kind::Credit, rows),
+        Way::ByCredit(place) => chosen.hand_to(account_at(rows, place), keep, Kind::Credit, rows),
         Way::Unclaimed => chosen.send(keep, 0, Kind::Kept, rows),
-        Way::ByExtra(place) => chosen.hand_to(party(rows, place), keep, Kind::Extra, rows),
+        Way::ByExtra(place) => chosen.hand_to(account_at(rows, place), keep, Kind::Extra, rows),
         Way::Idle => chosen.idle(keep, rows),
     }
 }
 
-// The session of a place, with its account.
-fn party(rows: &[Row; 64], place: Place) -> Party
+// The account of the session at a place.
+fn account_at(rows: &[Row; 64], place: Place) -> Placed<Account>
     requires { (j : ℕ) → HasRoom (at (table_of rows.now) j) }
     ensures place { result.place ≡ place }
-    ensures account { seen result.account.row ≡ at (table_of rows.now) place.number }
+    ensures account { seen result.held.row ≡ at (table_of rows.now) place.number }
 {
     let row = *row_at(rows, place);
-    Party {
+    Placed {
         place,
-        account: Account { row },
+        held: Account { row },
     }
 }
 
 // The rows and the keep go from call to call: the cell holds both, and a struct of them would be made for one call of each turn.
-impl Party {
+impl Placed<Account> {
     // The chosen session sends; `spent` is what that costs its allowance.
     fn send(self, keep: u8, spent: u8, kind: Kind, rows: &mut [Row; 64]) -> Turn
-        ensures answer { result ≡ turn_with self.place.number self.place.number (front (seen self.account.row).queue) kind }
-        ensures after { table_of rows.new ≡ slice_set (table_of rows.old) self.place.number (sends keep spent result.length (seen self.account.row)) }
+        ensures answer { result ≡ turn_with self.place.number self.place.number (front (seen self.held.row).queue) kind }
+        ensures after { table_of rows.new ≡ slice_set (table_of rows.old) self.place.number (sends keep spent result.length (seen self.held.row)) }
     {
-        let (frame, row) = self.account.send(keep, spent);
+        let (frame, row) = self.held.send(keep, spent);
         set_row(rows, self.place, row);
         sent(self.place, self.place, frame, kind)
     }
 
     // Another session uses the turn: the chosen is owed the bytes that the sender has had.
-    fn hand_to(self, sender: Party, keep: u8, kind: Kind, rows: &mut [Row; 64]) -> Turn
-        ensures answer { result ≡ turn_with self.place.number sender.place.number (front (seen sender.account.row).queue) kind }
+    fn hand_to(self, sender: Placed<Account>, keep: u8, kind: Kind, rows: &mut [Row; 64]) -> Turn
+        ensures answer { result ≡ turn_with self.place.number sender.place.number (front (seen sender.held.row).queue) kind }
         ensures after { table_of rows.new ≡
-            slice_set (slice_set (table_of rows.old) self.place.number (hands_on keep result.length (seen self.account.row)))
-            sender.place.number (takes_up result.length (seen sender.account.row)) }
+            slice_set (slice_set (table_of rows.old) self.place.number (hands_on keep result.length (seen self.held.row)))
+            sender.place.number (takes_up result.length (seen sender.held.row)) }
     {
-        let (frame, row) = sender.account.take_up();
-        set_row(rows, self.place, self.account.hand_on(keep, frame.length));
+        let (frame, row) = sender.held.take_up();
+        set_row(rows, self.place, self.held.hand_on(keep, frame.length));
         set_row(rows, sender.place, row);
         sent(self.place, sender.place, frame, kind)
     }
@@ -83,9 +83,9 @@ impl Party {
     // Nobody can send.
     fn idle(self, keep: u8, rows: &mut [Row; 64]) -> Turn
         ensures answer { result ≡ record { chosen = self.place.number; sent = None; length = idle_length; kind = Kind.Idle } }
-        ensures after { table_of rows.new ≡ slice_set (table_of rows.old) self.place.number (charged keep 0 result.length (seen self.account.row)) }
+        ensures after { table_of rows.new ≡ slice_set (table_of rows.old) self.place.number (charged keep 0 result.length (seen self.held.row)) }
     {
-        set_row(rows, self.place, self.account.idle(keep, IDLE_LENGTH));
+        set_row(rows, self.place, self.held.idle(keep, IDLE_LENGTH));
         Turn {
             chosen: self.place.number(),
             sent: None,

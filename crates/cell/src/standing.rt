@@ -1,4 +1,4 @@
-// How one session stands.
+// How one session stands. Seven fields of its row are named again: who asks gets neither `booked` nor 32 frames.
 use session::Row;
 
 #[derive(Clone, Copy, PartialEq, Eq, Debug)]

@@ -1,14 +1,12 @@
 // The turn.
-ghost use Rattle.std.specs.Prelude.{◌≡◌};
-ghost use Rattle.model.specs.Calls.{turn as a_turn, refusal, found, decide as decided, heard, step};
-ghost use Rattle.model.specs.Cell.{mark_after, all_joins};
-ghost use Rattle.model.specs.Departures.{departures};
+ghost use Rattle.std.specs.Prelude.{◌≡◌, Ok};
+ghost use Rattle.answer.specs.declared.turn.Answer.TheVariants.{Turn as Turned};
+ghost use Rattle.model.specs.Calls.{turn as a_turn, refusal, found, heard, step};
 ghost use Rattle.model.specs.Meaning.{meant};
 ghost use Rattle.model.specs.Table.{at, chosen as chosen_of};
-ghost use Rattle.model.specs.Turn.{answer_of, turned};
 ghost use Rattle.table.specs.Places.{table_of};
 ghost use Rattle.cell.specs.Plans.{unless};
-ghost use Rattle.cell.specs.Turns.{Accepted, chosen_as, turned_as};
+ghost use Rattle.cell.specs.Turns.{chosen_as, turned_as};
 ghost use Rattle.cell.specs.View.{view};
 ghost use Rattle.cell.specs.Ways.{way_as, only};
 
@@ -47,39 +45,27 @@ impl<C: Chooser> Cell<C> {
         ensures after { view self.new ≡ (step (meant C.Chooser) (view self.old) a_turn).cell }
     {
         let chosen = self.next()?;
-        let turn = pass(
-            &mut self.rows,
-            &mut self.mark,
-            &mut self.chooser,
-            self.keep,
-            chosen,
-        );
-        self.turns += 1;
-        Ok(turn)
+        Ok(self.pass(chosen))
     }
-}
 
-// The turn of the chosen place, from who sends in it to who joined a list by it.
-fn pass<C: Chooser>(
-    rows: &mut [Row; 64],
-    mark: &mut u64,
-    chooser: &mut C,
-    keep: u8,
-    chosen: Place,
-) -> Turn
-    requires { Accepted keep mark.old (table_of rows.old) chosen.number }
-    ensures answer { result ≡ answer_of (table_of rows.old) chosen.number (decided (meant C.Chooser) (only chooser.old (table_of rows.old)) chosen.number) }
-    ensures after { table_of rows.new ≡ departures (turned keep (table_of rows.old) chosen.number result.length (decided (meant C.Chooser) (only chooser.old (table_of rows.old)) chosen.number)) }
-    ensures marked { mark.new ≡ mark_after mark.old (table_of rows.old) (table_of rows.new) }
-    ensures told { chooser.new ≡ all_joins (meant C.Chooser) (table_of rows.old) (table_of rows.new) (heard (meant C.Chooser) (only chooser.old (table_of rows.old)) (decided (meant C.Chooser) (only chooser.old (table_of rows.old)) chosen.number) result.length) }
-{
-    let before = look(rows);
-    let way = Roll { rows }.decide(chooser, chosen);
-    let turn = carry_out(rows, keep, chosen, way);
-    tell_served(chooser, way, rows, turn.length);
-    leave(rows);
-    *mark = Roll { rows }.settle(&before, *mark, chooser);
-    turn
+    // The turn of the place that is next, from who sends in it to who joined a list by it.
+    // Midway the books are not in order, so the steps take parts of the cell and not the cell.
+    fn pass(&mut self, chosen: Place) -> Turn
+        requires { Ok chosen.number ≡ unless (refusal (view self.old) a_turn) (found (chosen_of (view self.old).table)) }
+        ensures answer { Ok (Turned result) ≡ (step (meant C.Chooser) (view self.old) a_turn).answer }
+        ensures after { view self.new ≡ (step (meant C.Chooser) (view self.old) a_turn).cell }
+    {
+        let before = look(&self.rows);
+        let roll = Roll { rows: &self.rows };
+        let way = roll.decide(&self.chooser, chosen);
+        let turn = carry_out(&mut self.rows, self.keep, chosen, way);
+        tell_served(&mut self.chooser, way, &self.rows, turn.length);
+        leave(&mut self.rows);
+        let roll = Roll { rows: &self.rows };
+        self.mark = roll.settle(&before, self.mark, &mut self.chooser);
+        self.turns += 1;
+        turn
+    }
 }
 
 // The chooser hears who was served in another's turn.
