@@ -2,6 +2,7 @@
 ghost use Rattle.std.specs.Prelude.{◌≡◌, IfErr};
 ghost use Rattle.model.specs.Calls.{opening, closing, arrival, report, step, make};
 ghost use Rattle.model.specs.Meaning.{meant};
+ghost use Rattle.model.specs.Further.{FurtherPromises};
 ghost use Rattle.model.specs.Promises.{Promises};
 ghost use Rattle.cell.specs.Answers.{made_as, answered};
 ghost use Rattle.cell.specs.View.{view};
@@ -20,6 +21,7 @@ impl<C: Chooser> Cell<C> {
         ensures made { made_as result ≡ make keep chooser }
         ensures back { IfErr result (λ u. u.chooser ≡ chooser) }
         ensures promises { Promises {C = C} (meant C.Chooser) }
+        ensures further { FurtherPromises {C = C} (meant C.Chooser) }
     {
         Cell::vacant(keep, chooser)
     }

@@ -13,13 +13,10 @@ use super::placed::Placed;
 use super::row::row_at;
 use super::state::Cell;
 use answer::Refusal;
-use chooser::Place;
+use chooser::{LONGEST, Place};
 use queue::Frame;
 use session::Row;
 use tariff::{LINK, Rate};
-
-// The bytes of the longest frame.
-const LONGEST: u16 = 1536;
 
 impl<C> Cell<C> {
     // The row of a place, open or not.

@@ -18,12 +18,9 @@ use super::send::carry_out;
 use super::state::Cell;
 use super::way::Way;
 use answer::{Refusal, Turn};
-use chooser::{Chooser, Line, Place};
+use chooser::{Chooser, Line, MOST_TURNS, Place};
 use session::Row;
 use table::due;
-
-// The turns that a cell accepts.
-const MOST_TURNS: u32 = 2_000_000_000;
 
 impl<C> Cell<C> {
     // Whose turn it is.
