@@ -1,6 +1,7 @@
 // The calls, as C makes them.
 ghost use Rattle.std.specs.Prelude.{◌≡◌};
 ghost use Rattle.model.specs.Calls.{opening, closing, arrival, report, turn as a_turn, step};
+ghost use Rattle.model.specs.Further.{FurtherPromises};
 ghost use Rattle.model.specs.Promises.{Promises};
 ghost use Rattle.base_unit.specs.Least.{least};
 ghost use Rattle.base_unit.specs.Made.{made_answer, made_unit};
@@ -28,6 +29,7 @@ pub extern "C" fn dalgweniz_make(unit: &mut Unit, keep: u8) -> u8
     ensures answer { result ≡ made_answer keep }
     ensures after { unit_view unit.new ≡ made_unit keep (unit_view unit.old) }
     ensures promises { Promises least }
+    ensures further { FurtherPromises least }
     ensures zero { ZeroIsNew }
 {
     let made = Cell::new(keep, LeastServed::new());
