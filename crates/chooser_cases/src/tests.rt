@@ -5,6 +5,7 @@ use keys::{Count, Debt, VirtualTime, least};
 use largest_debt::LargestDebt;
 use least_served::LeastServed;
 use std::array;
+use std::cmp::Reverse;
 use std::process::Abort;
 use std::test::Fail;
 use tariff::Rate;
@@ -48,7 +49,12 @@ fn the_least_of_each_kind(rt: HostRuntime) {
         Some(VirtualTime(5)),
     ];
     assert_eq!(rt; least(&times), Some(2));
-    let debts = [Some(Debt(-3)), None, Some(Debt(-2)), Some(Debt(-2))];
+    let debts = [
+        Some(Debt(Reverse(-3))),
+        None,
+        Some(Debt(Reverse(-2))),
+        Some(Debt(Reverse(-2))),
+    ];
     assert_eq!(rt; least(&debts), Some(2));
     let counts = [Some(Count(0)), None, Some(Count(0))];
     assert_eq!(rt; least(&counts), Some(0));
