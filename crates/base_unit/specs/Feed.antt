@@ -13,7 +13,7 @@ use Rattle.record.specs.Layout.{Contents}
 use Rattle.record.specs.Lines.{line_text, fault_text}
 use Rattle.record.specs.Reading.{reading}
 use Rattle.record.specs.Writing.{over}
-use Rattle.replay.specs.Playing.{call_in}
+use Rattle.replay.specs.Events.{call_in}
 use Rattle.base_unit.specs.Least.{least}
 use Rattle.base_unit.specs.Numbers.{layer_number}
 use Rattle.base_unit.specs.declared.outs.Fed.{Fed}

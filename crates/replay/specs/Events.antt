@@ -5,16 +5,26 @@ use Rattle.answer.specs.declared.fault.Layer.TheVariants.{Cell as ByTheCell}
 use Rattle.answer.specs.declared.refusal.Refusal.{Refusal}
 use Rattle.answer.specs.declared.turn.Answer.{Answer}
 use Rattle.model.specs.Calls.{Call, opening, closing, arrival, report, turn}
+use Rattle.record.specs.Layout.{Contents, contents}
 use Rattle.record.specs.declared.event.Event.{Event}
-use Rattle.record.specs.declared.event.Event.TheVariants.{Open, Close, Arrive, Good, Bad, Turn}
+use Rattle.record.specs.declared.letter.Letter.{Letter}
+use Rattle.record.specs.declared.letter.Letter.TheVariants.{O, C, A, G, B, T}
 
+-- the call of a letter, with what the record says
+abbrev pub call_by : Letter → Contents → Call
+call_by O c = opening c.place c.value
+call_by C c = closing c.place
+call_by A c = arrival c.place c.value c.length
+call_by G c = report c.place true
+call_by B c = report c.place false
+call_by T c = turn
+
+abbrev pub call_in : Contents → Call
+call_in c = call_by c.letter c
+
+-- the call of an event: that of its record
 abbrev pub call_of : Event → Call
-call_of (Open place rate note) = opening place rate
-call_of (Close place note) = closing place
-call_of (Arrive place size tag note) = arrival place tag size
-call_of (Good place note) = report place true
-call_of (Bad place note) = report place false
-call_of (Turn note) = turn
+call_of event = call_in (contents event)
 
 -- what the cell answered, or the fault at a record: the cell's, and of no byte
 abbrev pub at_record : ℕ → Result Answer Refusal → Result Answer Fault

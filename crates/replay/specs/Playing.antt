@@ -1,27 +1,13 @@
 -- What the next record of an input does to a cell.
-use Rattle.std.specs.Prelude.{ℕ, true, false, List, Some, None, Ok, Err, Option, Result}
+use Rattle.std.specs.Prelude.{ℕ, List, Some, None, Ok, Err, Option, Result}
 use Rattle.answer.specs.declared.fault.Fault.{Fault}
 use Rattle.answer.specs.declared.turn.Answer.{Answer}
-use Rattle.model.specs.Calls.{Call, opening, closing, arrival, report, turn, step}
+use Rattle.model.specs.Calls.{step}
 use Rattle.model.specs.Cell.{Cell}
 use Rattle.model.specs.Meaning.{Meaning}
 use Rattle.record.specs.Layout.{Contents, contents}
-use Rattle.record.specs.declared.letter.Letter.{Letter}
-use Rattle.record.specs.declared.letter.Letter.TheVariants.{O, C, A, G, B, T}
-use Rattle.replay.specs.Events.{at_record}
+use Rattle.replay.specs.Events.{at_record, call_in}
 use Rattle.replay.specs.declared.asked.Asked.{Asked}
-
--- the call of a letter, with what the record says
-abbrev pub call_by : Letter → Contents → Call
-call_by O c = opening c.place c.value
-call_by C c = closing c.place
-call_by A c = arrival c.place c.value c.length
-call_by G c = report c.place true
-call_by B c = report c.place false
-call_by T c = turn
-
-abbrev pub call_in : Contents → Call
-call_in c = call_by c.letter c
 
 -- what the code answers, with an event as its record says it
 abbrev pub outcome : Result (Option Asked) Fault → Result (Option (Contents × Result Answer Fault)) Fault
