@@ -5,9 +5,9 @@ mod asked;
 mod events;
 mod playing;
 
-// The keep of a cell that programs play a recording into.
+// Its keep, where a program makes it: `new_cell`.
 pub const KEEP: u8 = 2;
 
 pub use asked::Asked;
 pub use events::{apply, call};
-pub use playing::play_record;
+pub use playing::{new_cell, play_record};
