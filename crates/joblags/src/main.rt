@@ -10,6 +10,8 @@ mod asked;
 mod balance;
 mod play;
 mod sheet;
+#[cfg(test)]
+mod tests;
 
 use asked::every;
 use play::play;
