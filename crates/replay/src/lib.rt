@@ -5,7 +5,7 @@ mod asked;
 mod events;
 mod playing;
 
-// Its keep, where a program makes it: `new_cell`.
+// The keep of a cell that programs play a recording into.
 pub const KEEP: u8 = 2;
 
 pub use asked::Asked;
