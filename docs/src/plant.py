@@ -88,6 +88,7 @@ def reaches():
         head, colon, rest = line.split("#")[0].partition(":")
         if colon:
             deps[head.split()[0]] = rest.split()
+    deps = {name: [d for d in of if d in deps] for name, of in deps.items()}  # without the kit's crates
     below = {}
     for name in deps:
         below[name], todo = set(), set(deps[name])
@@ -152,7 +153,8 @@ class Worker:
         shutil.rmtree(home, ignore_errors=True)
         shutil.copytree(ROOT / "crates", home / "crates", ignore=shutil.ignore_patterns("out"))
         for name in ["crates.txt", "HANDLES"]:
-            shutil.copy2(ROOT / name, home / name)
+            if (ROOT / name).exists():
+                shutil.copy2(ROOT / name, home / name)
 
     def rt(self, crate, *words, given=b""):
         folder = self.home / "crates" / crate

@@ -1,9 +1,8 @@
 // Plays a recording into a cell, and prints how its places stand: at the end, and after every Nth record if asked.
 #![tactic(auto)]
 
-use cell::Cell;
 use least_served::LeastServed;
-use replay::KEEP;
+use replay::new_cell;
 use std::io::{BufReader, BufWriter, Read, Write};
 use std::{env, io};
 
@@ -11,6 +10,8 @@ mod asked;
 mod balance;
 mod play;
 mod sheet;
+#[cfg(test)]
+mod tests;
 
 use asked::every;
 use play::play;
@@ -26,7 +27,7 @@ fn main(rt: HostRuntime) -> io::Result<()> {
     };
     let mut reader = BufReader::new(rt.alloc(), rt.stdin().take(recording::BYTES))?;
     let mut out = BufWriter::new(rt.alloc(), rt.stdout())?;
-    let mut cell = Cell::new(KEEP, LeastServed::new()).unwrap();
+    let mut cell = new_cell(LeastServed::new());
     play(&mut cell, every, &mut reader, &mut out)?;
     out.flush()
 }

@@ -10,4 +10,4 @@ pub const KEEP: u8 = 2;
 
 pub use asked::Asked;
 pub use events::{apply, call};
-pub use playing::play_record;
+pub use playing::{new_cell, play_record};
