@@ -7,6 +7,7 @@ use super::account::Account;
 use queue::Frame;
 use session::Row;
 
+// The keep is the cell's and no part of an account: so it comes with each call.
 impl Account {
     // Sends its first frame in its own turn; while it leads, that costs its allowance `spent` quarters of the charge.
     pub fn send(mut self, keep: u8, spent: u8) -> (Frame, Row)

@@ -23,8 +23,8 @@ impl fmt::Display for Layer {
     }
 }
 
-// The record number counts from 1, and is 0 on writing; the byte is 0 where no byte is at fault. Zeros and no `Option`: these are the
-// numbers that a fault is told by, in C too.
+// The record number counts from 1, and is 0 on writing; the byte is 0 where no byte is at fault. Zeros and no `Option`: `reclist`,
+// `joblags` and C show them as they are.
 #[derive(Clone, Copy, PartialEq, Eq, Debug)]
 pub struct Fault {
     pub refusal: Refusal,

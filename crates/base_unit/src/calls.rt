@@ -18,7 +18,7 @@ use cell::Cell;
 use least_served::LeastServed;
 use record::Event;
 
-// No record told of the event. (Tried: a closure over the cell in place of an event. Both goals of the call stayed open.)
+// No record told of the event. (Tried with a closure over the cell in place of an event: the proofs of answer and cell did not close.)
 const NO_NOTE: &[u8] = b"";
 
 // A new cell in place of what was there, for which all zero will do: that is a cell too. Whatever is called on it from here on, it

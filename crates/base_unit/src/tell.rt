@@ -10,7 +10,7 @@ use queue::Frame;
 
 pub(crate) const DONE: u8 = 0;
 
-// 0 for done, and otherwise the number of the refusal.
+// 0 for done, and otherwise the number of the refusal. No `From` for a number: that 0 is done, only C's calls say.
 pub(crate) fn told(res: Result<Answer, Refusal>) -> u8
     ensures { result ≡ number_told res }
 {

@@ -21,8 +21,8 @@ pub const LONGEST: u16 = 1_536;
 // The turns that a cell accepts.
 pub const MOST_TURNS: u32 = 2_000_000_000;
 
-// A chooser answers whom it would pick now, and is told what happened. It refuses nothing. Places are numbers and no `Place`: it may
-// be told of one above 63, and that does nothing.
+// A chooser answers whom it would pick now, and is told what happened. It refuses nothing. Places are numbers and no `Place`, as
+// its meaning has them: it may be told of one above 63, and that does nothing.
 pub trait Chooser {
     // The place that it would pick now from a list, given who is in it.
     ghost pick: { Self → TheLine → TheOffer → Maybe ℕ };

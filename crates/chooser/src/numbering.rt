@@ -5,8 +5,8 @@ ghost use Rattle.chooser.specs.Places.{numbers, place_numbered};
 use super::place::Place;
 
 impl Place {
-    // The place of this number, if there is one. No `TryFrom`: that there is none refuses nothing here. No `then`: its closure
-    // would have to ask once more that the number is below 64.
+    // The place of this number, if there is one. No `TryFrom`: that there is none refuses nothing here. (Tried with `then`: that the
+    // number is below 64 its closure has to ask in a clause of its own.)
     pub fn new(number: usize) -> Option<Place>
         ensures { numbers result ≡ place_numbered number }
     {

@@ -31,12 +31,13 @@ pub(crate) struct Sheet<'a, C> {
     pub cell: &'a Cell<C>,
 }
 
-impl Head {
-    fn of<C>(cell: &Cell<C>, after: u64) -> Head
-        ensures { result ≡ head_of after (view cell.now) }
-    {
+impl<C> From<&Sheet<'_, C>> for Head {
+    ghost from_gives = { λ sheet head. head ≡ head_of sheet.now.after (view sheet.now.cell.now) };
+
+    fn from(sheet: &Sheet<'_, C>) -> Head {
+        let cell = sheet.cell;
         Head {
-            after,
+            after: sheet.after,
             mark: cell.mark(),
             booked: cell.booked(),
             turns: cell.turns(),
@@ -45,7 +46,7 @@ impl Head {
 }
 
 impl Line {
-    // None where the place isn't open.
+    // None where the place isn't open. No `From`: it is made of a cell and a place.
     fn of<C>(cell: &Cell<C>, place: u8) -> Option<Line>
         ensures { result ≡ line_of place (standings (asked (view cell.now) place)) }
     {
@@ -94,8 +95,8 @@ impl fmt::Display for Line {
 
 impl<C> fmt::Display for Sheet<'_, C> {
     fn fmt<W: fmt::Write>(&self, f: &mut fmt::Formatter<W>) -> fmt::Result {
-        let Sheet { after, cell } = *self;
-        writeln!(f, "{}", Head::of(cell, after))?;
+        let cell = self.cell;
+        writeln!(f, "{}", Head::from(self))?;
         for line in (0..64).filter_map(|place| Line::of(cell, place)) {
             writeln!(f, "{line}")?;
         }

@@ -65,7 +65,7 @@ impl Queue {
         ensures answer { result ≡ front (waiting self.old) }
         ensures after { waiting self.new ≡ rest (waiting self.old) }
     {
-        // A `then` would say nothing of the queue afterwards.
+        // No `then`: its contract does not say what its closure leaves of the queue.
         if self.is_empty() {
             None
         } else {

@@ -8,7 +8,7 @@ use std::fmt;
 use std::marker::Model;
 
 // Records by letter, and the bytes of the frames that were offered.
-#[derive(Drop)]
+#[derive(Drop, Default)]
 pub(crate) struct Tally {
     opened: u64,
     closed: u64,
@@ -31,15 +31,7 @@ impl Tally {
     pub(crate) fn new() -> Tally
         ensures { result ≡ empty }
     {
-        Tally {
-            opened: 0,
-            closed: 0,
-            arrived: 0,
-            good: 0,
-            bad: 0,
-            turns: 0,
-            bytes: 0,
-        }
+        Tally::default()
     }
 
     // All records that were counted.

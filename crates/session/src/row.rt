@@ -2,7 +2,8 @@
 use queue::Queue;
 
 // Plain numbers and no `Option<Rate>` with its price: a row lies in C's memory, where zeros alone are a place that is not open.
-// That rate times price is the link wherever a rate is booked, the table's owner sees to.
+// That rate times price is the link wherever a rate is booked, the table's owner sees to. No `impl Model`: what is copied, and lies
+// in C's memory, would have to be given back from what it stands for, and old frames of its queue cannot be.
 #[repr(C)]
 #[derive(Clone, Copy)]
 pub struct Row {

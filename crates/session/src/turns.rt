@@ -9,13 +9,13 @@ use super::row::Row;
 use queue::Frame;
 
 impl Row {
-    // Takes its first frame; a queue without one gives a frame of no bytes, as `front` does, and no `Option`: only who is able is
-    // asked.
+    // Takes its first frame; a queue without one gives a frame of no bytes. No `Option`: only who is able is asked, so that both
+    // callers would have to unwrap it.
     pub fn pop(&mut self) -> Frame
         ensures frame { result ≡ front (seen self.old).queue }
         ensures after { seen self.new ≡ popped (seen self.old) }
     {
-        self.queue.pop().unwrap_or(Frame { tag: 0, length: 0 })
+        self.queue.pop().unwrap_or_default()
     }
 
     // Whether it departs: it is active, but has no frame and does not lead.
