@@ -16,10 +16,7 @@ use super::unit::Unit;
 use answer::Answer;
 use cell::Cell;
 use least_served::LeastServed;
-use record::Event;
-
-// No record told of the event. (Tried with a closure over the cell in place of an event: the proofs of answer and cell did not close.)
-const NO_NOTE: &[u8] = b"";
+use record::Call;
 
 // A new cell in place of what was there, for which all zero will do: that is a cell too. Whatever is called on it from here on, it
 // keeps its promises.
@@ -42,11 +39,7 @@ pub extern "C" fn dalgweniz_open(unit: &mut Unit, place: u8, rate: u32) -> u8
     ensures answer { result ≡ number_told (step least (unit_view unit.old) (opening place rate)).answer }
     ensures after { unit_view unit.new ≡ (step least (unit_view unit.old) (opening place rate)).cell }
 {
-    told(unit.call(Event::Open {
-        place,
-        rate,
-        note: NO_NOTE,
-    }))
+    told(unit.call(Call::Open { place, rate }))
 }
 
 // Closes a place whose session is not active, once the mark has come up to its virtual time.
@@ -55,10 +48,7 @@ pub extern "C" fn dalgweniz_close(unit: &mut Unit, place: u8) -> u8
     ensures answer { result ≡ number_told (step least (unit_view unit.old) (closing place)).answer }
     ensures after { unit_view unit.new ≡ (step least (unit_view unit.old) (closing place)).cell }
 {
-    told(unit.call(Event::Close {
-        place,
-        note: NO_NOTE,
-    }))
+    told(unit.call(Call::Close { place }))
 }
 
 // Queues a frame that has come for a place.
@@ -67,11 +57,10 @@ pub extern "C" fn dalgweniz_arrive(unit: &mut Unit, place: u8, tag: u32, bytes: 
     ensures answer { result ≡ number_told (step least (unit_view unit.old) (arrival place tag bytes)).answer }
     ensures after { unit_view unit.new ≡ (step least (unit_view unit.old) (arrival place tag bytes)).cell }
 {
-    told(unit.call(Event::Arrive {
+    told(unit.call(Call::Arrive {
         place,
         length: bytes,
         tag,
-        note: NO_NOTE,
     }))
 }
 
@@ -81,11 +70,10 @@ pub extern "C" fn dalgweniz_report(unit: &mut Unit, place: u8, good: bool) -> u8
     ensures answer { result ≡ number_told (step least (unit_view unit.old) (report place good)).answer }
     ensures after { unit_view unit.new ≡ (step least (unit_view unit.old) (report place good)).cell }
 {
-    let note = NO_NOTE;
     told(unit.call(if good {
-        Event::Good { place, note }
+        Call::Good { place }
     } else {
-        Event::Bad { place, note }
+        Call::Bad { place }
     }))
 }
 
@@ -96,7 +84,7 @@ pub extern "C" fn dalgweniz_turn(unit: &mut Unit, out: &mut TurnOut) -> u8
     ensures after { unit_view unit.new ≡ (step least (unit_view unit.old) a_turn).cell }
     ensures turn { out.new ≡ turn_left (step least (unit_view unit.old) a_turn).answer out.old }
 {
-    let answer = unit.call(Event::Turn { note: NO_NOTE });
+    let answer = unit.call(Call::Turn);
     if let Ok(Answer::Turn(turn)) = answer {
         *out = TurnOut::from(turn);
     }

@@ -33,7 +33,7 @@ pub extern "C" fn dalgweniz_feed(
             ..Fed::default()
         },
         Ok(Some((event, _))) => {
-            let result = unit.call(event);
+            let result = unit.call(event.call);
             let line = line(number, event, result, out).unwrap();
             Fed {
                 line,

@@ -2,7 +2,7 @@
 ghost use Rattle.std.specs.Prelude.{◌≡◌};
 ghost use Rattle.cell.specs.View.{view};
 ghost use Rattle.model.specs.Calls.{step};
-ghost use Rattle.replay.specs.Events.{call_of};
+ghost use Rattle.replay.specs.Events.{call_as};
 ghost use Rattle.base_unit.specs.Least.{least};
 ghost use Rattle.base_unit.specs.View.{unit_view};
 
@@ -10,8 +10,7 @@ use super::unit::Unit;
 use answer::{Answer, Refusal};
 use cell::Cell;
 use least_served::LeastServed;
-use record::Event;
-use replay::call;
+use record::Call;
 
 impl From<&Unit> for Cell<LeastServed> {
     ghost from_gives = { λ unit cell. view cell ≡ unit_view unit.now };
@@ -49,13 +48,13 @@ impl From<Cell<LeastServed>> for Unit {
 }
 
 impl Unit {
-    // Makes the call that an event stands for.
-    pub(crate) fn call(&mut self, event: Event) -> Result<Answer, Refusal>
-        ensures answer { result ≡ (step least (unit_view self.old) (call_of event.entry)).answer }
-        ensures after { unit_view self.new ≡ (step least (unit_view self.old) (call_of event.entry)).cell }
+    // Makes a call.
+    pub(crate) fn call(&mut self, call: Call) -> Result<Answer, Refusal>
+        ensures answer { result ≡ (step least (unit_view self.old) (call_as call)).answer }
+        ensures after { unit_view self.new ≡ (step least (unit_view self.old) (call_as call)).cell }
     {
         let mut cell = Cell::from(&*self);
-        let result = call(&mut cell, event);
+        let result = replay::call(&mut cell, call);
         *self = Unit::from(cell);
         result
     }

@@ -3,7 +3,7 @@ ghost use Rattle.std.specs.Prelude.{◌≡◌, ◌+◌, ◌<◌};
 ghost use Rattle.record.specs.Layout.{contents};
 ghost use Rattle.reclist.specs.Tallies.{Counts, Small, counted, counts, empty, records as all_records};
 
-use record::Event;
+use record::{Call, Event};
 use std::fmt;
 use std::marker::Model;
 
@@ -47,16 +47,16 @@ impl Tally {
         ensures after { self.new ≡ counted self.old (contents event.entry) }
         ensures one_more { all_records self.new ≡ all_records self.old + 1 }
     {
-        match event {
-            Event::Open { .. } => self.opened += 1,
-            Event::Close { .. } => self.closed += 1,
-            Event::Arrive { length, .. } => {
+        match event.call {
+            Call::Open { .. } => self.opened += 1,
+            Call::Close { .. } => self.closed += 1,
+            Call::Arrive { length, .. } => {
                 self.arrived += 1;
                 self.bytes += u64::from(length);
             }
-            Event::Good { .. } => self.good += 1,
-            Event::Bad { .. } => self.bad += 1,
-            Event::Turn { .. } => self.turns += 1,
+            Call::Good { .. } => self.good += 1,
+            Call::Bad { .. } => self.bad += 1,
+            Call::Turn => self.turns += 1,
         }
     }
 }

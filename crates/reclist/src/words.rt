@@ -1,6 +1,6 @@
 // Events and faults in words.
 use answer::Fault;
-use record::Event;
+use record::{Call, Event};
 use std::fmt;
 use tariff::Rate;
 
@@ -15,8 +15,8 @@ impl fmt::Display for InWords<'_> {
     fn fmt<W: fmt::Write>(&self, f: &mut fmt::Formatter<W>) -> fmt::Result {
         let InWords { number, event } = *self;
         write!(f, "{number}: ")?;
-        match event {
-            Event::Open { place, rate, .. } => match Rate::try_from(rate) {
+        match event.call {
+            Call::Open { place, rate } => match Rate::try_from(rate) {
                 Ok(booked) => write!(
                     f,
                     "place {place} opens at rate {rate}, price {}",
@@ -27,23 +27,18 @@ impl fmt::Display for InWords<'_> {
                     "place {place} opens at rate {rate}, which is not in the tariff"
                 ),
             },
-            Event::Close { place, .. } => write!(f, "place {place} closes"),
-            Event::Arrive {
-                place,
-                length,
-                tag,
-                ..
-            } => write!(
+            Call::Close { place } => write!(f, "place {place} closes"),
+            Call::Arrive { place, length, tag } => write!(
                 f,
                 "place {place} offers a frame of {length} bytes, tag {tag}"
             ),
-            Event::Good { place, .. } => write!(f, "the channel of place {place} is good"),
-            Event::Bad { place, .. } => write!(f, "the channel of place {place} is bad"),
-            Event::Turn { .. } => write!(f, "a turn"),
+            Call::Good { place } => write!(f, "the channel of place {place} is good"),
+            Call::Bad { place } => write!(f, "the channel of place {place} is bad"),
+            Call::Turn => write!(f, "a turn"),
         }?;
         write!(f, " [")?;
         // byte by byte: that a note is text, `str::from_utf8` would ask again
-        for b in event.note() {
+        for b in event.note {
             f.write_char(char::from(*b))?;
         }
         write!(f, "]")

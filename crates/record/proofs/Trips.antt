@@ -8,12 +8,13 @@ use Rattle.std.proofs.lemmas.List.{take_at, drop_at, take_all, length-take-le, g
 use Rattle.answer.specs.declared.fault.Fault.{Fault}
 use Rattle.answer.specs.declared.refusal.Refusal.{Refusal}
 use Rattle.answer.specs.declared.refusal.Refusal.TheVariants.{NoteNotPrintable}
+use Rattle.record.specs.declared.call.Call.{Call}
+use Rattle.record.specs.declared.call.Call.TheVariants.{Open, Close, Arrive, Good, Bad, Turn}
 use Rattle.record.specs.declared.event.Event.{Event}
-use Rattle.record.specs.declared.event.Event.TheVariants.{Open, Close, Arrive, Good, Bad, Turn}
 use Rattle.record.specs.declared.letter.Letter.{Letter}
 use Rattle.record.specs.declared.letter.Letter.TheVariants.{O, C, A, G, B, T}
 use Rattle.record.specs.Letters.{among, byte_of, letter_of}
-use Rattle.record.specs.Layout.{Contents, saying, contents, decoded, encoded, little, spread, note_in}
+use Rattle.record.specs.Layout.{Contents, saying, recorded, contents, decoded, encoded, little, spread, note_in}
 use Rattle.record.specs.Reading.{first_unprintable, unless, parsed, parsed_as, reading, with_rest}
 use Rattle.record.specs.Writing.{is_note, writing, written}
 use Rattle.record.specs.Laws.{ReadsBack}
@@ -53,18 +54,18 @@ module _ (number : ℕ) (c : Contents) (out : List ℕ) (ok : writing c out ≡ 
       ∙ front number c (encoded c) (drop 16 out) (omega arith)
       (sym known ∙ (λ i. unless ((ap first_unprintable t ∙ n.1) i) NoteNotPrintable number (Ok (d i))))
 
-event_there : (e : Event) (out : List ℕ) (number : ℕ) → (contents e).length < 2 ^ 16 → (contents e).value < 2 ^ 32 → writing (contents e) out ≡ Ok tt
-    → reading number (written (contents e) out) ≡ Ok (Some (contents e, drop 16 out))
-event_there (Open p r n) out number l v w = there number (contents (Open p r n)) out w refl l v
-event_there (Close p n) out number l v w = there number (contents (Close p n)) out w refl l v
-event_there (Arrive p m t n) out number l v w = there number (contents (Arrive p m t n)) out w refl l v
-event_there (Good p n) out number l v w = there number (contents (Good p n)) out w refl l v
-event_there (Bad p n) out number l v w = there number (contents (Bad p n)) out w refl l v
-event_there (Turn n) out number l v w = there number (contents (Turn n)) out w refl l v
+call_there : (c : Call) (n out : List ℕ) (number : ℕ) → (recorded c n).length < 2 ^ 16 → (recorded c n).value < 2 ^ 32 → writing (recorded c n) out ≡ Ok tt
+    → reading number (written (recorded c n) out) ≡ Ok (Some (recorded c n, drop 16 out))
+call_there (Open p r) n out number l v w = there number (recorded (Open p r) n) out w refl l v
+call_there (Close p) n out number l v w = there number (recorded (Close p) n) out w refl l v
+call_there (Arrive p m t) n out number l v w = there number (recorded (Arrive p m t) n) out w refl l v
+call_there (Good p) n out number l v w = there number (recorded (Good p) n) out w refl l v
+call_there (Bad p) n out number l v w = there number (recorded (Bad p) n) out w refl l v
+call_there Turn n out number l v w = there number (recorded Turn n) out w refl l v
 
 pub reads_back : (e : Event) (before now : List ℕ) (r : Result (Unit {0}) Fault) → (contents e).length < 2 ^ 16 → (contents e).value < 2 ^ 32
     → r ≡ writing (contents e) before → now ≡ written (contents e) before → ReadsBack (contents e) before now r
-reads_back e before now (Ok u) l v w a = λ number. ap (reading number) a ∙ event_there e before number l v (sym w)
+reads_back e before now (Ok u) l v w a = λ number. ap (reading number) a ∙ call_there e.call e.note.now before number l v (sym w)
 reads_back e before now (Err f) l v w a = tt
 
 -- a byte that is a letter is how that letter is written

@@ -3,8 +3,9 @@
 use Rattle.std.specs.Prelude.{ℕ, zero, suc, ◌+◌, ◌*◌, ◌/◌, ◌%◌, List, [], ◌∷◌, ◌++◌, slice_index}
 use Rattle.std.specs.List.{between}
 use Rattle.std.specs.declared.ops.Range.{Range}
+use Rattle.record.specs.declared.call.Call.{Call}
+use Rattle.record.specs.declared.call.Call.TheVariants.{Open, Close, Arrive, Good, Bad, Turn}
 use Rattle.record.specs.declared.event.Event.{Event}
-use Rattle.record.specs.declared.event.Event.TheVariants.{Open, Close, Arrive, Good, Bad, Turn}
 use Rattle.record.specs.declared.letter.Letter.{Letter}
 use Rattle.record.specs.declared.letter.Letter.TheVariants.{O, C, A, G, B, T}
 use Rattle.record.specs.declared.parts.Parts.{Parts}
@@ -62,14 +63,18 @@ used G c = saying G c.place 0 0 c.note
 used B c = saying B c.place 0 0 c.note
 used T c = saying T 0 0 0 c.note
 
--- an event as a record says it, with 0 for what its letter leaves unused
+-- a call as a record with this note says it, with 0 for what its letter leaves unused
+abbrev pub recorded : Call → List ℕ → Contents
+recorded (Open place rate) note = saying O place 0 rate note
+recorded (Close place) note = saying C place 0 0 note
+recorded (Arrive place size tag) note = saying A place size tag note
+recorded (Good place) note = saying G place 0 0 note
+recorded (Bad place) note = saying B place 0 0 note
+recorded Turn note = saying T 0 0 0 note
+
+-- an event as a record says it
 abbrev pub contents : Event → Contents
-contents (Open place rate note) = saying O place 0 rate note.now
-contents (Close place note) = saying C place 0 0 note.now
-contents (Arrive place size tag note) = saying A place size tag note.now
-contents (Good place note) = saying G place 0 0 note.now
-contents (Bad place note) = saying B place 0 0 note.now
-contents (Turn note) = saying T 0 0 0 note.now
+contents event = recorded event.call event.note.now
 
 -- a number of some bytes, the lowest first
 abbrev pub little : List ℕ → ℕ

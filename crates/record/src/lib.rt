@@ -1,6 +1,7 @@
 // Events as records of sixteen bytes: reading, writing, and the line that tells of each.
 #![tactic(auto)]
 
+mod call;
 mod event;
 mod layout;
 mod letter;
@@ -10,6 +11,7 @@ mod reader;
 mod text;
 mod writer;
 
+pub use call::Call;
 pub use event::Event;
 pub use letter::Letter;
 pub use lines::{fault_line, line};

@@ -2,6 +2,7 @@
 ghost use Rattle.std.specs.Prelude.{◌≡◌};
 ghost use Rattle.record.specs.Layout.{contents, said, saying, used};
 
+use crate::call::Call;
 use crate::event::Event;
 use crate::letter::Letter;
 
@@ -42,22 +43,18 @@ impl<'a> From<Parts<'a>> for Event<'a> {
             value,
             note,
         } = parts;
-        match letter {
-            Letter::O => Event::Open {
-                place,
-                rate: value,
-                note,
-            },
-            Letter::C => Event::Close { place, note },
-            Letter::A => Event::Arrive {
+        let call = match letter {
+            Letter::O => Call::Open { place, rate: value },
+            Letter::C => Call::Close { place },
+            Letter::A => Call::Arrive {
                 place,
                 length,
                 tag: value,
-                note,
             },
-            Letter::G => Event::Good { place, note },
-            Letter::B => Event::Bad { place, note },
-            Letter::T => Event::Turn { note },
-        }
+            Letter::G => Call::Good { place },
+            Letter::B => Call::Bad { place },
+            Letter::T => Call::Turn,
+        };
+        Event { call, note }
     }
 }

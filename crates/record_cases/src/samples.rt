@@ -2,7 +2,7 @@
 ghost use Rattle.std.specs.Prelude.{◌≤◌};
 
 use answer::{Fault, Layer, Refusal};
-use record::Event;
+use record::{Call, Event};
 
 // rate 720720 at place 63
 pub const OPEN: [u8; 16] = [
@@ -36,43 +36,53 @@ pub const RECORDS: [[u8; 16]; 6] = [OPEN, CLOSE, ARRIVE, GOOD, BAD, TURN];
 pub const SAID: [([u8; 16], Event<'static>); 6] = [
     (
         OPEN,
-        Event::Open {
-            place: 63,
-            rate: 720_720,
+        Event {
+            call: Call::Open {
+                place: 63,
+                rate: 720_720,
+            },
             note: b"hall 7 E",
         },
     ),
     (
         CLOSE,
-        Event::Close {
-            place: 255,
+        Event {
+            call: Call::Close { place: 255 },
             note: b"closed..",
         },
     ),
     (
         ARRIVE,
-        Event::Arrive {
-            place: 5,
-            length: 1536,
-            tag: 4_294_967_295,
+        Event {
+            call: Call::Arrive {
+                place: 5,
+                length: 1536,
+                tag: 4_294_967_295,
+            },
             note: b"caption ",
         },
     ),
     (
         GOOD,
-        Event::Good {
-            place: 0,
+        Event {
+            call: Call::Good { place: 0 },
             note: b"        ",
         },
     ),
     (
         BAD,
-        Event::Bad {
-            place: 1,
+        Event {
+            call: Call::Bad { place: 1 },
             note: b"~~~~~~~~",
         },
     ),
-    (TURN, Event::Turn { note: b"--------" }),
+    (
+        TURN,
+        Event {
+            call: Call::Turn,
+            note: b"--------",
+        },
+    ),
 ];
 
 // A fault of the record layer, made here: what is expected does not come from the code that is tested.

@@ -3,20 +3,20 @@ ghost use Rattle.std.specs.Prelude.{◌≡◌};
 ghost use Rattle.cell.specs.View.{view};
 ghost use Rattle.model.specs.Calls.{step};
 ghost use Rattle.model.specs.Meaning.{meant};
-ghost use Rattle.replay.specs.Events.{call_of, at_record};
+ghost use Rattle.replay.specs.Events.{call_as, call_of, at_record};
 
 use answer::{Answer, Fault, Layer, Refusal};
 use cell::Cell;
 use chooser::Chooser;
 use queue::Frame;
-use record::Event;
+use record::{Call, Event};
 
-// Makes the call that an event stands for. A refusal becomes the fault of the record with this number.
+// Makes the call of an event. A refusal becomes the fault of the record with this number.
 pub fn apply<C: Chooser>(cell: &mut Cell<C>, event: Event, number: u64) -> Result<Answer, Fault>
     ensures answer { result ≡ at_record number (step (meant C.Chooser) (view cell.old) (call_of event.entry)).answer }
     ensures after { view cell.new ≡ (step (meant C.Chooser) (view cell.old) (call_of event.entry)).cell }
 {
-    call(cell, event).map_err(|refusal| Fault {
+    call(cell, event.call).map_err(|refusal| Fault {
         refusal,
         layer: Layer::Cell,
         record: number,
@@ -25,22 +25,17 @@ pub fn apply<C: Chooser>(cell: &mut Cell<C>, event: Event, number: u64) -> Resul
 }
 
 // The same without a record.
-pub fn call<C: Chooser>(cell: &mut Cell<C>, event: Event) -> Result<Answer, Refusal>
-    ensures answer { result ≡ (step (meant C.Chooser) (view cell.old) (call_of event.entry)).answer }
-    ensures after { view cell.new ≡ (step (meant C.Chooser) (view cell.old) (call_of event.entry)).cell }
+pub fn call<C: Chooser>(cell: &mut Cell<C>, call: Call) -> Result<Answer, Refusal>
+    ensures answer { result ≡ (step (meant C.Chooser) (view cell.old) (call_as call)).answer }
+    ensures after { view cell.new ≡ (step (meant C.Chooser) (view cell.old) (call_as call)).cell }
 {
-    match event {
-        Event::Open { place, rate, .. } => cell.open(place, rate)?,
-        Event::Close { place, .. } => cell.close(place)?,
-        Event::Arrive {
-            place,
-            length,
-            tag,
-            ..
-        } => cell.arrive(place, Frame { tag, length })?,
-        Event::Good { place, .. } => cell.report(place, true)?,
-        Event::Bad { place, .. } => cell.report(place, false)?,
-        Event::Turn { .. } => return cell.turn().map(Answer::Turn),
+    match call {
+        Call::Open { place, rate } => cell.open(place, rate)?,
+        Call::Close { place } => cell.close(place)?,
+        Call::Arrive { place, length, tag } => cell.arrive(place, Frame { tag, length })?,
+        Call::Good { place } => cell.report(place, true)?,
+        Call::Bad { place } => cell.report(place, false)?,
+        Call::Turn => return cell.turn().map(Answer::Turn),
     }
     Ok(Answer::Done)
 }

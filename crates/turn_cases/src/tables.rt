@@ -5,7 +5,7 @@ use answer::Refusal::{self, NoneActive};
 use answer::Turn;
 
 // One call. A run is a table and no row of closures: it is played with each keep and chooser, whose cells are of two types.
-// No `Event` of a record: that would carry a note.
+// No `Call` of `record`: that would put the names of its parts into each row, `Call::Arrive { place: 3, length: 1535, tag: 1 }`.
 #[derive(Clone, Copy)]
 pub(crate) enum Step {
     // place, rate
