@@ -1,5 +1,5 @@
 // How the turn of the chosen session goes. It is decided once and read twice, by the turn and by the telling.
-// Closures were tried: they cannot borrow the rows while it is decided, and given the rows, `decide` has to say of each how it is called and what it leaves.
+// Tried with closures: they would borrow the rows that the turn changes; given the rows, `decide` would need a clause for each closure's call and effect.
 use chooser::Place;
 
 // Where the turn is handed on, with the place that gets it.
