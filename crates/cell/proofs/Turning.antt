@@ -1,10 +1,14 @@
 -- Rows written one after another, as sessions that change.
-use Rattle.std.proofs.Common.{◌≡◌, ℕ, set, IfSome, Some, Option, sym, ap, ◌∙◌, subst}
+use Rattle.std.proofs.Common.{◌≡◌, ℕ, set, IfSome, sym, ap, ◌∙◌, subst}
+use Rattle.chooser.specs.declared.place.Place.{Place}
 use Rattle.model.proofs.Tables.{at_is, change_is, at_other}
+use Rattle.model.specs.Lists.{Line, Credit, Extra}
 use Rattle.model.specs.Session.{Session}
 use Rattle.model.specs.Table.{Table, at, change}
-use Rattle.model.specs.Turn.{Way, hands_on, takes_up, turned}
-use Rattle.cell.specs.Ways.{handed_to}
+use Rattle.model.specs.Turn.{hands_on, takes_up, turned}
+use Rattle.cell.specs.Ways.{way_as, handed_to}
+use Rattle.cell.specs.declared.way.Way.{Way}
+use Rattle.cell.specs.declared.way.Way.TheVariants.{HandedOn}
 
 -- reading a session and changing it, as on a list
 pub ruleset on_lists = (at_is, change_is)
@@ -21,11 +25,17 @@ two_made t i j f g n =
     ∙ ap (λ (s : Session). set (change t i f) j (g s)) (sym (at_other t i j f n))
     ∙ made_there (change t i f) j g
 
--- a turn that is handed on from the one at place a to the one at place b, both as they were found
-pub handed_left : (keep n : ℕ) (t : Table) (c q : ℕ) (w v : Way) → w ≡ v →
-    turned keep t c n v ≡ change (change t c (hands_on keep n)) q (takes_up n) → handed_to v ≡ Some q → IfSome (handed_to w) (λ q. c ≡ q → ⊥) →
-    (a b : ℕ) (r s : Session) → a ≡ c → b ≡ q → r ≡ at t c → s ≡ at t q → set (set t a (hands_on keep n r)) b (takes_up n s) ≡ turned keep t c n w
-handed_left keep n t c q w v is left to other a b r s x y d e =
-    let apart : c ≡ q → ⊥ = subst (λ (o : Option ℕ). IfSome o (λ q. c ≡ q → ⊥)) (ap handed_to is ∙ to) other in
-    (λ i. set (set t (x i) (hands_on keep n (d i))) (y i) (takes_up n (e i)))
-    ∙ two_made t c q (hands_on keep n) (takes_up n) apart ∙ sym left ∙ sym (ap (turned keep t c n) is)
+-- a turn that is handed on from the chosen place to another, both as they were found
+handed : (keep n : ℕ) (t : Table) (chosen other : Place) (l : Line) → IfSome (handed_to (way_as (HandedOn l other))) (λ q. chosen.number ≡ q → ⊥) →
+    set (set t chosen.number (hands_on keep n (at t chosen.number))) other.number (takes_up n (at t other.number))
+    ≡ turned keep t chosen.number n (way_as (HandedOn l other))
+handed keep n t chosen other Credit apart = two_made t chosen.number other.number (hands_on keep n) (takes_up n) apart
+handed keep n t chosen other Extra apart = two_made t chosen.number other.number (hands_on keep n) (takes_up n) apart
+
+pub handed_left : (keep n : ℕ) (t : Table) (chosen other a b : Place) (l : Line) (way : Way) (r s : Session) → way ≡ HandedOn l other →
+    a ≡ chosen → b ≡ other → r ≡ at t chosen.number → s ≡ at t other.number → IfSome (handed_to (way_as way)) (λ q. chosen.number ≡ q → ⊥) →
+    set (set t a.number (hands_on keep n r)) b.number (takes_up n s) ≡ turned keep t chosen.number n (way_as way)
+handed_left keep n t chosen other a b l way r s is x y d e apart =
+    (λ i. set (set t (x i).number (hands_on keep n (d i))) (y i).number (takes_up n (e i)))
+    ∙ handed keep n t chosen other l (subst (λ (w : Way). IfSome (handed_to (way_as w)) (λ q. chosen.number ≡ q → ⊥)) is apart)
+    ∙ sym (ap (λ (w : Way). turned keep t chosen.number n (way_as w)) is)

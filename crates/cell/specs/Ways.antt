@@ -3,18 +3,19 @@ use Rattle.std.specs.Prelude.{ℕ, Some, None, Option}
 use Rattle.answer.specs.declared.turn.Kind.{Kind}
 use Rattle.answer.specs.declared.turn.Turn.{Turn}
 use Rattle.model.specs.Cell.{Cell}
+use Rattle.model.specs.Lists.{Credit, Extra}
 use Rattle.model.specs.Session.{Frame}
 use Rattle.model.specs.Table.{Table}
 use Rattle.model.specs.Turn.{Way as TheWay, by_right, by_allowance, by_credit, unclaimed, by_extra, idle}
 use Rattle.cell.specs.declared.way.Way.{Way}
-use Rattle.cell.specs.declared.way.Way.TheVariants.{ByRight, ByAllowance, ByCredit, Unclaimed, ByExtra, Idle}
+use Rattle.cell.specs.declared.way.Way.TheVariants.{ByRight, ByAllowance, HandedOn, Unclaimed, Idle}
 
 abbrev pub way_as : Way → TheWay
 way_as ByRight = by_right
 way_as ByAllowance = by_allowance
-way_as (ByCredit q) = by_credit q.number
+way_as (HandedOn Credit q) = by_credit q.number
+way_as (HandedOn Extra q) = by_extra q.number
 way_as Unclaimed = unclaimed
-way_as (ByExtra q) = by_extra q.number
 way_as Idle = idle
 
 -- the place that a turn is handed on to

@@ -2,6 +2,7 @@
 ghost use Rattle.std.specs.Prelude.{◌≡◌, ◌≤◌};
 ghost use Rattle.model.specs.Calls.{asked};
 ghost use Rattle.model.specs.Table.{booked_total};
+ghost use Rattle.tariff.specs.Tariff.{link};
 ghost use Rattle.cell.specs.Asked.{standings, frames};
 ghost use Rattle.cell.specs.View.{view};
 
@@ -39,14 +40,14 @@ impl<C> Cell<C> {
     // The rates of all open places together.
     pub fn booked(&self) -> u32
         ensures is { result ≡ booked_total (view self.now).table }
-        ensures most { result ≤ 720720 }
+        ensures most { result ≤ link }
     {
         self.total() as u32
     }
 
     fn total(&self) -> u64
         ensures is { result ≡ booked_total (view self.now).table }
-        ensures most { result ≤ 720720 }
+        ensures most { result ≤ link }
     {
         booked_total(&self.rows)
     }

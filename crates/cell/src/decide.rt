@@ -36,13 +36,13 @@ impl Roll<'_> {
             return Way::ByAllowance;
         }
         if let Some(place) = self.pick(chooser, Line::Credit) {
-            return Way::ByCredit(place);
+            return Way::HandedOn(Line::Credit, place);
         }
         if row.able() {
             return Way::Unclaimed;
         }
         match self.pick(chooser, Line::Extra) {
-            Some(place) => Way::ByExtra(place),
+            Some(place) => Way::HandedOn(Line::Extra, place),
             None => Way::Idle,
         }
     }

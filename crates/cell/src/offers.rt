@@ -7,7 +7,7 @@ use super::roll::Roll;
 use chooser::{Line, Offer};
 use table::stayed;
 
-// A list and who stood in it before are no pair: it would be made for each call and taken apart here.
+// As in `table`, a list and who stood in it are two parameters.
 impl Roll<'_> {
     // Those who stood in a list before and still do.
     pub(crate) fn stayed(&self, line: Line, before: &[bool; 64]) -> Offer

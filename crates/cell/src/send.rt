@@ -13,7 +13,7 @@ use super::row::{row_at, set_row};
 use super::way::Way;
 use account::Account;
 use answer::{Kind, Sent, Turn};
-use chooser::Place;
+use chooser::{Line, Place};
 use queue::Frame;
 use session::Row;
 
@@ -35,9 +35,14 @@ pub(crate) fn carry_out(rows: &mut [Row; 64], keep: u8, chosen: Place, way: Way)
     match way {
         Way::ByRight => chosen.send(keep, 0, Kind::Normal, rows),
         Way::ByAllowance => chosen.send(keep, QUARTERS, Kind::Normal, rows),
-        Way::ByCredit(place) => chosen.hand_to(account_at(rows, place), keep, Kind::Credit, rows),
+        Way::HandedOn(line, place) => {
+            let kind = match line {
+                Line::Credit => Kind::Credit,
+                Line::Extra => Kind::Extra,
+            };
+            chosen.hand_to(account_at(rows, place), keep, kind, rows)
+        }
         Way::Unclaimed => chosen.send(keep, 0, Kind::Kept, rows),
-        Way::ByExtra(place) => chosen.hand_to(account_at(rows, place), keep, Kind::Extra, rows),
         Way::Idle => chosen.idle(keep, rows),
     }
 }

@@ -10,7 +10,7 @@ use super::roll::Roll;
 use chooser::{Chooser, Line};
 use table::{anybody_joined, mark_after};
 
-// A list and who stood in it before are no pair: it would be made for each call and taken apart there.
+// As in `table`, a list and who stood in it are two parameters.
 impl Roll<'_> {
     // Tells of all who joined a list, credit before extra, and answers where the mark is then.
     pub(crate) fn settle<C: Chooser>(&self, before: &Before, mark: u64, chooser: &mut C) -> u64

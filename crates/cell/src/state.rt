@@ -6,6 +6,7 @@ use session::Row;
 
 // Its books are in order: from that follow all bounds on its numbers, and that every open place has a rate of the tariff.
 // Whoever makes a cell of these parts, or changes one of them, shows that anew.
+// It has no model: its parts are public, so that a library that keeps them in C's memory can make a cell of them.
 #[derive(Drop)]
 pub struct Cell<C> {
     pub rows: [Row; 64],

@@ -18,7 +18,7 @@ use super::send::carry_out;
 use super::state::Cell;
 use super::way::Way;
 use answer::{Refusal, Turn};
-use chooser::{Chooser, Line, MOST_TURNS, Place};
+use chooser::{Chooser, MOST_TURNS, Place};
 use session::Row;
 use table::due;
 
@@ -69,14 +69,8 @@ impl<C: Chooser> Cell<C> {
 fn tell_served<C: Chooser>(chooser: &mut C, way: Way, rows: &[Row; 64], bytes: u16)
     ensures { chooser.new ≡ heard (meant C.Chooser) (only chooser.old (table_of rows.now)) (way_as way) bytes }
 {
-    match way {
-        Way::ByCredit(place) => {
-            chooser.served(Line::Credit, place.index(), bytes, price(rows, place));
-        }
-        Way::ByExtra(place) => {
-            chooser.served(Line::Extra, place.index(), bytes, price(rows, place));
-        }
-        Way::ByRight | Way::ByAllowance | Way::Unclaimed | Way::Idle => {}
+    if let Way::HandedOn(line, place) = way {
+        chooser.served(line, place.index(), bytes, price(rows, place));
     }
 }
 

@@ -1,6 +1,6 @@
 // How the turn of the chosen session goes. It is decided once and read twice, by the turn and by the telling.
-// Closures were tried: they cannot borrow the rows while it is decided, and given the rows, `decide` has to say of each how it is called and what it leaves.
-use chooser::Place;
+// Tried with closures: they would borrow the rows that the turn changes; given the rows, `decide` would need a clause for each closure's call and effect.
+use chooser::{Line, Place};
 
 // Where the turn is handed on, with the place that gets it.
 #[derive(Clone, Copy)]
@@ -9,12 +9,10 @@ pub(crate) enum Way {
     ByRight,
     // it leads, but its allowance lets it send
     ByAllowance,
-    // a lagging session is paid back
-    ByCredit(Place),
+    // a lagging session is paid back from the credit list; or the chosen is not able, and one that is owed nothing uses the turn from the extra list
+    HandedOn(Line, Place),
     // it leads beyond its allowance, but nobody is owed
     Unclaimed,
-    // it is not able, and a session that is owed nothing uses the turn
-    ByExtra(Place),
     // nobody is able
     Idle,
 }
