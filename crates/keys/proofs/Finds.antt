@@ -173,9 +173,6 @@ module _ {K : Type 0} (before : K → K → Bool) where
       (λ lt. ap test l.candidate ∙ unbeaten_from row key l.none_before) in
       grind (arith, nat_tests)
 
-  pub least_unique : (row : List (Option K)) (r s : Option ℕ) → Least before row r → Least before row s → r ≡ s
-  least_unique row r s p q = least_is row r p ∙ sym (least_is row s q)
-
 -- where keys have an order there is always such an answer, and so the definition has the property that its name says
 pub least_of_is_least : {K : Type 0} {before : K → K → Bool} → IsStrictWeakOrder before
     → (row : List (Option K)) → Least before row (least_of before row)
