@@ -1,4 +1,4 @@
--- The numbers that bound a cell and what a chooser hears of it. Each stands here once.
+-- The numbers that bound a cell and what a chooser hears of it.
 use Rattle.std.specs.Prelude.{ℕ}
 
 -- places, numbered from 0

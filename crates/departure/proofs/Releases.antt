@@ -1,10 +1,10 @@
 -- One departure, and all of them, as the code makes them.
-use Rattle.std.proofs.Common.{◌≡◌, ℕ, zero, suc, ◌+◌, ◌<◌, ◌≤◌, Some, None, Option, sym, refl, ap, ◌∙◌, arith}
+use Rattle.std.proofs.Common.{◌≡◌, ℕ, suc, ◌+◌, ◌<◌, ◌≤◌, Some, None, Option, sym, refl, ap, ◌∙◌, arith}
 use Rattle.std.proofs.lemmas.Bool.{cond_both}
 use Rattle.model.specs.Departures.{departing, gone, active_rate, share, departed, depart, departures}
 use Rattle.model.specs.Session.{above_zero}
 use Rattle.model.specs.Table.{Table, at, change, total, booked_total, first, active_count}
-use Rattle.model.proofs.Departures.{once_fewer, depart_total, depart_owes}
+use Rattle.model.proofs.Departures.{once_fewer, depart_still, depart_total, depart_owes}
 use Rattle.departure.specs.Owing.{owing}
 use Rattle.model.proofs.Tables.{first_found, total_change, total_same, total_le}
 
@@ -53,11 +53,6 @@ module _ (t : Table) (k : ℕ) (found : first departing t ≡ Some k) (u : Table
       ap departures after ∙ sym (ap (λ (n : ℕ). depart n t) n ∙ ap (λ (o : Option ℕ). depart (active_count (departed t (Some k))) (departed t o)) found)
 
 -- nobody departs
-still : (n : ℕ) (t : Table) → first departing t ≡ None → depart n t ≡ t
-unfolding depart departed
-still zero t e = refl
-still (suc n) t e = ap (λ (o : Option ℕ). depart n (departed t o)) e ∙ still n t e
-
 pub departures_none : (t : Table) → first departing t ≡ None → departures t ≡ t
 unfolding departures
-departures_none t e = still (active_count t) t e
+departures_none t e = depart_still (active_count t) t e

@@ -1,6 +1,9 @@
 -- That the search finds the least, and that there is only one least.
 use Rattle.std.proofs.Common.{◌≡◌, ℕ, zero, suc, ◌+◌, ◌<◌, ◌≤◌, Bool, true, false, cond, ◌⊎◌, List, [], ◌∷◌, length, get_or, Some, None, Option, sym, refl, ap, ◌∙◌, subst, inl, inr, ⊎_elim, arith}
-use Rattle.std.specs.Cmp.{IsStrictWeakOrder}
+use Rattle.std.specs.Cmp.{IsStrictWeakOrder, IsTotalOrder}
+use Rattle.std.specs.Ordering.{is_gt, min_by_ordering}
+use Rattle.std.specs.declared.cmp.Ordering.{Ordering}
+use Rattle.std.specs.declared.cmp.Ordering.TheVariants.{Less, Equal, Greater}
 use Rattle.std.specs.List.{enumerate_from, filter_map, fold, position_or_len, reduce}
 use Rattle.std.specs.Option.{option_map}
 use Rattle.std.proofs.lemmas.Bool.{cases_Bool, cases_lt, and_from, and_left, and_right, not_from_true, not_from_false}
@@ -8,7 +11,8 @@ use Rattle.std.proofs.lemmas.Bool.Decides.{nat_tests}
 use Rattle.std.proofs.lemmas.List.{get_or_past}
 use Rattle.std.proofs.lemmas.List.Sums.{position_or_len_is}
 use Rattle.keys.proofs.Options.{some_none, same_some}
-use Rattle.keys.proofs.Orders.{irreflexive, overtakes}
+use Rattle.keys.proofs.Orders.{gt_is_lt, irreflexive, overtakes}
+use Rattle.keys.specs.Order.{lt_by_cmp}
 use Rattle.keys.specs.Least.{unbeaten, is_least, least_of, LeastAt, Least}
 
 -- ---- the search: the candidates in turn, of which the first of the least stays
@@ -20,6 +24,16 @@ candidates n row = filter_map numbered (enumerate_from n row)
 
 abbrev pub sooner : {K : Type 0} → (K → K → Bool) → ℕ × K → ℕ × K → ℕ × K
 sooner before x y = cond (before y.1 x.1) y x
+
+-- it is what `min_by_key` picks, by the order
+by_order : {K : Type 0} (o : Ordering) (x y : ℕ × K) → min_by_ordering o x y ≡ cond (is_gt o) y x
+by_order Less x y = refl
+by_order Equal x y = refl
+by_order Greater x y = refl
+
+pub sooner_is : {K : Type 0} {cmp : K → K → Ordering} → IsTotalOrder cmp → (x y : ℕ × K)
+    → min_by_ordering (cmp x.1 y.1) x y ≡ sooner (lt_by_cmp cmp) x y
+sooner_is {cmp = cmp} total x y = by_order (cmp x.1 y.1) x y ∙ ap (λ (b : Bool). cond b y x) (gt_is_lt total x.1 y.1)
 
 -- a fact of each entry, where one entry more stands in front
 at_cons : {X : Type 0} (x : X) (xs : List X) (d : X) (P : ℕ → X → Type 0) → P 0 x → ((j : ℕ) → P (suc j) (get_or xs j d)) → (j : ℕ) → P j (get_or (x ∷ xs) j d)
@@ -158,9 +172,6 @@ module _ {K : Type 0} (before : K → K → Bool) where
       (λ j lt. not_least row _ (λ other is. beaten_from row other i key l.candidate (l.lowest j other lt is)))
       (λ lt. ap test l.candidate ∙ unbeaten_from row key l.none_before) in
       grind (arith, nat_tests)
-
-  pub least_unique : (row : List (Option K)) (r s : Option ℕ) → Least before row r → Least before row s → r ≡ s
-  least_unique row r s p q = least_is row r p ∙ sym (least_is row s q)
 
 -- where keys have an order there is always such an answer, and so the definition has the property that its name says
 pub least_of_is_least : {K : Type 0} {before : K → K → Bool} → IsStrictWeakOrder before

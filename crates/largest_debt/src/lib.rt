@@ -4,6 +4,7 @@
 ghost use Rattle.std.specs.Prelude.{◌≡◌, ◌≤◌, pos, ◌*ℤ◌, unsigned_abs};
 ghost use Rattle.keys.specs.Kinds.{debt};
 ghost use Rattle.keys.specs.Places.{key_at};
+ghost use Rattle.tariff.specs.Tariff.{link};
 ghost use Rattle.chooser.specs.Offers.{offered_at, lag_bound};
 ghost use Rattle.largest_debt.specs.Largest.{debt_key, largest_debt, PicksLargest};
 ghost use Rattle.largest_debt.specs.Laws.{largest_is_offered};
@@ -20,7 +21,7 @@ pub struct LargestDebt;
 #[tactic(auto, using(crate::proofs::Debts::product_fits))]
 fn debt_of(entry: Entry) -> Debt
     requires near { unsigned_abs entry.lag ≤ lag_bound }
-    requires price { entry.price ≤ 720720 }
+    requires price { entry.price ≤ link }
     ensures { result ≡ debt (entry.lag *ℤ pos entry.price) }
 {
     Debt(Reverse(entry.lag * i64::from(entry.price)))

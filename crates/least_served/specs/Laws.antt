@@ -6,6 +6,7 @@ use Rattle.keys.specs.Kinds.{count, count_before}
 use Rattle.keys.proofs.Orders.{count_order}
 use Rattle.chooser.specs.declared.entry.Entry.{Entry}
 use Rattle.chooser.specs.declared.entry.Line.{Line}
+use Rattle.chooser.specs.Limits.{places}
 use Rattle.chooser.specs.Offers.{sound, PicksOffered}
 use Rattle.chooser.specs.Picks.{PicksFirst}
 use Rattle.chooser.proofs.Picks.{picks_first, picks_offered, picked_inside}
@@ -27,5 +28,5 @@ module _ (c : LeastServed) (line : Line) (es : List (Option Entry)) (s : sound e
   pub least_is_offered : PicksOffered es (least_served c line es)
   least_is_offered = picks_offered count_order es s (count_key c line)
 
-  pub least_inside : (place : ℕ) → Some place ≡ least_served c line es → place < 64
+  pub least_inside : (place : ℕ) → Some place ≡ least_served c line es → place < places
   least_inside = picked_inside es s (least_served c line es) least_is_offered

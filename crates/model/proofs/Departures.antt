@@ -290,11 +290,6 @@ unfolding departed
 once_draft m t None e d = d
 once_draft m t (Some k) e d = let f = first_found departing t k e in departed_draft t k f.0 f.1 m d
 
--- the same in the midst of a turn
-pub once_midway : (most : ℕ) (t : Table) (k : ℕ) → first departing t ≡ Some k → Midway most t →
-    Midway most (departed t (Some k))
-once_midway most t k e d = let f = first_found departing t k e in departed_midway t k f.0 f.1 most d
-
 pub once_fewer : (t : Table) (k : ℕ) → first departing t ≡ Some k →
     active_count (departed t (Some k)) + 1 ≡ active_count t
 once_fewer t k e = let f = first_found departing t k e in departed_count t k f.0 f.1

@@ -4,7 +4,7 @@ use Rattle.answer.specs.declared.turn.Kind.{Kind}
 use Rattle.answer.specs.declared.turn.Kind.TheVariants.{Normal, Credit as OnCredit, Kept, Extra as OnExtra, Idle}
 use Rattle.answer.specs.declared.turn.Sent.{Sent}
 use Rattle.answer.specs.declared.turn.Turn.{Turn}
-use Rattle.queue.specs.Ring.{no_frame}
+use Rattle.queue.specs.Fifo.{no_frame}
 use Rattle.model.specs.Limits.{idle_length, quarters}
 use Rattle.model.specs.Session.{Frame, Session, able, leads, with_virtual_time, with_lag, with_allowance, with_queue}
 use Rattle.model.specs.Table.{Table, at, change}

@@ -14,6 +14,10 @@ is_full q = nat_le room (length q)
 abbrev pub is_empty : List Frame → Bool
 is_empty q = length q == 0
 
+-- what stands where no frame waits: a frame of no bytes
+abbrev pub no_frame : Frame
+no_frame = record { tag = 0; length = 0 }
+
 -- the frame that has waited longest, and those that stay when it leaves
 abbrev pub front : List Frame → Option Frame
 front [] = None

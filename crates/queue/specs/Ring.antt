@@ -2,9 +2,7 @@
 use Rattle.std.specs.Prelude.{ℕ, zero, suc, ◌+◌, ◌%◌, List, [], ◌∷◌, slice_index_or}
 use Rattle.queue.specs.declared.frame.Frame.{Frame}
 use Rattle.queue.specs.declared.ring.Ring.{Ring}
-
-abbrev pub no_frame : Frame
-no_frame = record { tag = 0; length = 0 }
+pub use Rattle.queue.specs.Fifo.{no_frame}
 
 -- n frames of a ring of 32, from a place on
 abbrev pub around : List Frame → ℕ → ℕ → List Frame
