@@ -1,6 +1,11 @@
 -- What the model says of a table is what the library says of a chain over its rows.
-use Rattle.std.proofs.Common.{◌≡◌, ℕ, ◌+◌, max, Bool, true, false, cond, not, ◌&&◌, ◌||◌, List, [], ◌∷◌, Some, None, Option, refl, sym, ap, ◌∙◌, arith}
-use Rattle.std.proofs.lemmas.Iterator.Adapters.{position_from-zero}
+use Rattle.std.proofs.Common.{◌≡◌, ℕ, ◌+◌, ◌-◌, ◌/◌, ◌^◌, ◌<◌, ◌≤◌, length, max, Bool, true, false, cond, not, ◌&&◌, ◌||◌, List, [], ◌∷◌, Some, None, Option, refl, sym, ap, ◌∙◌, arith}
+use Rattle.std.proofs.lemmas.Iterator.{YieldsList}
+use Rattle.std.proofs.lemmas.Iterator.Adapters.{at_most_from_yields_List, fits_from_length, position_from-zero}
+use Rattle.std.specs.Fn.{Called}
+use Rattle.std.specs.Iterator.Adapters.{map_source, map_callee, map_steps}
+use Rattle.std.specs.Iterator.Runs.{EachRunFrom}
+use Rattle.std.specs.declared.iter.Map.{Map}
 use Rattle.std.proofs.lemmas.List.Recursion.{is_sum_by}
 use Rattle.std.specs.List.{fold, sum_by, list_any, position, position_from, zip}
 use Rattle.std.specs.Option.{option_map}
@@ -11,10 +16,18 @@ use Rattle.session.specs.Seen.{seen}
 use Rattle.session.specs.declared.row.Row.{Row}
 use Rattle.table.specs.Joiners.{any_joins}
 use Rattle.table.specs.Places.{table_of}
+use denote.Param.Members.{Mut}
 
 pub total_of : (g : Session → ℕ) (rows : List Row) → total g (table_of rows) ≡ sum_by (λ r. g (seen r)) rows
 unfolding table_of total
 total_of g rows = is_sum_by (λ rows. total g (table_of rows)) (λ r. g (seen r)) refl (λ _ _. refl) rows
+
+-- the sum of 64 numbers of at most 32 bits, one of each row, fits 64 bits
+pub sum_fits : {S A F : Type 0} {steps : S → Option A → S → Type 0} {v : A → Row} {s : Map S F} {rows : List Row} (g : Mut F (A × Unit {0}) ℕ) (f : F)
+    → YieldsList steps v (map_source s) rows → length rows ≡ 64 → map_callee s ≡ f
+    → ((x : A) (r : ℕ) (q : F) → Called g f (x, tt) r q → (q ≡ f) × (r ≤ (2 ^ 64 - 1) / 64))
+    → EachRunFrom (map_steps steps g) s (λ p. fold (λ a x. a + x) 0 p.items < 2 ^ 64)
+sum_fits g f road told callee each = fits_from_length g f 64 (2 ^ 64) (at_most_from_yields_List road (omega (arith, told))) callee (omega arith) each
 
 -- ---- the largest
 

@@ -17,7 +17,7 @@ pub fn first_to_depart(rows: &[Row; 64]) -> Option<Place>
     first_departing(rows).and_then(Place::new)
 }
 
-// Its index.
+// Its index. As with `any_joiner` of `lists.rt`, the clause mirrors the chain.
 fn first_departing(rows: &[Row]) -> Option<usize>
     ensures inside { IfSome result (λ i. i < length rows.now) }
     ensures is { result ≡ position (λ row. departing (seen row)) rows.now }

@@ -11,7 +11,9 @@ use chooser::{Entry, Line};
 use session::Row;
 use std::array;
 
-// Who stands in a list, place by place. (`array::from_fn` hands each closure a number: that it is below 64 is the closure's to ask.)
+// Who stands in a list, place by place.
+// (Tried without the closure's clauses, and with `ensures` alone: it is not proved then that `i` is below 64. With `requires` alone,
+// what the closure gives is left to a proof by hand. A `map` would copy all rows: std's `each_ref` ends at 16.)
 #[tactic(auto, using(crate::proofs::Tables::at_table))]
 pub fn members(rows: &[Row; 64], line: Line) -> [bool; 64]
     ensures { result ≡ in_list line (table_of rows.now) }
@@ -24,7 +26,8 @@ pub fn members(rows: &[Row; 64], line: Line) -> [bool; 64]
     )
 }
 
-// Whether a place is in a list now that was not. (A line and who stood in it come apart: a pair would be made for each call and taken apart there.)
+// Whether a place is in a list now that was not.
+// A list and who stood in it are two parameters: a struct of both would be made for each call and taken apart in it.
 #[tactic(auto, using(crate::proofs::Chains::joins_of))]
 pub fn anybody_joined(rows: &[Row; 64], line: Line, before: &[bool; 64]) -> bool
     ensures { result ≡ any_joins line before.now (table_of rows.now) }

@@ -40,6 +40,7 @@ pub fn nobody_active(rows: &[Row; 64]) -> bool
     !anybody_active(rows)
 }
 
+// As with `any_joiner` of `lists.rt`, the clause mirrors the chain.
 fn anybody_active(rows: &[Row]) -> bool
     ensures { result ≡ list_any (λ row. row.active) rows.now }
 {
