@@ -122,10 +122,10 @@ module _ {C : Type 0} (M : Meaning C) (law : Lawful M) (keep mark : ℕ) (t : Ta
       let makes = makes_of M cell turn _ turn_is in
       record {
         answer = ap (λ (r : Turn). Ok (Turned r)) answered ∙ makes.answer;
-        cell =
+        after =
             (λ i. record { keep = keep; mark = p i; turns = a.turns + 1; table = u; chooser = q i })
             ∙ ap (λ (v : Table). settled M cell v (a.turns + 1) (heard M (only ch t) (decide M (only ch t) c) r.length)) e
-            ∙ ap (λ (r : Turn). turn_after M cell c (decide M cell c) r.length) answered ∙ makes.cell;
+            ∙ ap (λ (r : Turn). turn_after M cell c (decide M cell c) r.length) answered ∙ makes.after;
       }
 
   -- the way that the turn goes, and the table that it leaves before departures

@@ -57,15 +57,13 @@ invariant_of-self g c =
     let makes =
     passed M law _ _ (table_of x.rows) x.chooser _ a (way_as c.decide-way.result) c.decide-way.ensures carried.result carried.ensures.answer
     _ _ _ _ _ _ c.look-before.ensures carried.ensures.after c.tell_served.ensures c.leave.ensures c.settle-self.ensures.mark c.settle-self.ensures.told in
-    record { ordered = in_order M (view x) _ _ _ makes law (books x.ordered) }
+    record { ordered = in_order g.C.Chooser g.met.C.Chooser.picks x _ _ _ makes }
 
 pub returns : goal.returns
 returns g c =
     let x = c.args.self.now in
     let a = turn_accepted (view x) _ c.requires (books x.ordered) in
     let carried = c.carry_out-turn in
-    let makes =
     passed (meant g.C.Chooser) (lawful g.C.Chooser g.met.C.Chooser.picks) _ _ (table_of x.rows) x.chooser _ a
     (way_as c.decide-way.result) c.decide-way.ensures carried.result carried.ensures.answer
-    _ _ _ _ _ _ c.look-before.ensures carried.ensures.after c.tell_served.ensures c.leave.ensures c.settle-self.ensures.mark c.settle-self.ensures.told in
-    record { answer = makes.answer; after = makes.cell }
+    _ _ _ _ _ _ c.look-before.ensures carried.ensures.after c.tell_served.ensures c.leave.ensures c.settle-self.ensures.mark c.settle-self.ensures.told
