@@ -5,14 +5,14 @@ use Rattle.std.specs.Result.{IsErrAnd}
 use Rattle.answer.specs.declared.refusal.Refusal.{Refusal}
 use Rattle.answer.specs.declared.turn.Answer.{Answer}
 use Rattle.answer.specs.declared.turn.Answer.TheVariants.{Done}
+use Rattle.chooser.specs.Offers.{PicksOffered}
+use Rattle.chooser.specs.declared.Chooser.{Ghosts}
+use Rattle.chooser.specs.declared.offer.Offer.{Offer}
 use Rattle.model.proofs.Books.{step_sound}
 use Rattle.model.proofs.Meant.{lawful}
 use Rattle.model.proofs.Order.{books}
 use Rattle.model.proofs.Tables.{at_is, change_is}
 use Rattle.model.specs.Calls.{Call, opening, closing, arrival, report, refusal, arrived, Outcome, changed, accepted, outcome, step}
-use Rattle.chooser.specs.Offers.{PicksOffered}
-use Rattle.chooser.specs.declared.Chooser.{Ghosts}
-use Rattle.chooser.specs.declared.offer.Offer.{Offer}
 use Rattle.model.specs.Cell.{Cell, settled}
 use Rattle.model.specs.Lists.{Line}
 use Rattle.model.specs.Meaning.{Meaning, meant}
