@@ -4,17 +4,22 @@ use Rattle.std.proofs.lemmas.Bool.{lt-leb, leb-false}
 use Rattle.answer.specs.declared.refusal.Refusal.TheVariants.{NoneActive, TurnsUsedUp}
 use Rattle.answer.specs.declared.turn.Answer.TheVariants.{Turn as Turned}
 use Rattle.answer.specs.declared.turn.Turn.{Turn}
-use Rattle.chooser.specs.Offers.{lag_bound}
+use Rattle.chooser.specs.Offers.{lag_bound, PicksOffered}
+use Rattle.chooser.specs.declared.Chooser.{Ghosts}
+use Rattle.chooser.specs.declared.offer.Offer.{Offer}
 use Rattle.model.specs.Calls.{turn, refusal, found, decide, heard, Outcome, turn_after, turn_of, accepted, outcome, step}
 use Rattle.model.specs.Cell.{Cell, mark_after, all_joins, settled}
 use Rattle.model.specs.Departures.{departures}
 use Rattle.model.specs.Limits.{places, most_turns}
-use Rattle.model.specs.Meaning.{Meaning, Lawful}
-use Rattle.model.specs.Sound.{Books, Midway, Sound}
+use Rattle.model.specs.Lists.{Line}
+use Rattle.model.specs.Meaning.{Meaning, Lawful, meant}
+use Rattle.model.specs.Sound.{Midway, Sound}
 use Rattle.model.specs.Table.{Table, at, change, is_none, none_active, chosen}
 use Rattle.model.specs.Turn.{Way, by_right, by_allowance, by_credit, unclaimed, by_extra, idle, sender, length_of, answer_of, hands_on, takes_up, turned}
 use Rattle.model.proofs.Books.{ordered_of, step_sound}
 use Rattle.model.proofs.Chosen.{chosen_some}
+use Rattle.model.proofs.Meant.{lawful}
+use Rattle.model.proofs.Order.{books}
 use Rattle.model.proofs.Tables.{change_same}
 use Rattle.model.proofs.Senders.{Rightly, decides}
 use Rattle.model.proofs.Turn.{apart_credit, apart_extra}
@@ -28,6 +33,9 @@ use Rattle.cell.specs.declared.before.Before.{Before}
 use Rattle.cell.specs.Plans.{unless}
 use Rattle.cell.specs.Room.{HasRoom}
 use Rattle.cell.specs.Ways.{handed_to, only}
+use Rattle.cell.specs.View.{view}
+use Rattle.cell.specs.declared.state.Cell.{Cell as TheCell}
+use Rattle.cell.proofs.Rows.{rows_sized}
 use Rattle.cell.proofs.Steps.{Makes, makes_of, planned}
 
 -- ---- ways
@@ -57,13 +65,6 @@ heard_after M ch keep n t c idle = refl
 
 -- ---- the turn
 
--- the books are in order, a turn is left, and it is that of place c
-pub record Accepted (keep mark : ℕ) (t : Table) (c : ℕ) : Type 0 where
-  pub turns : ℕ
-  pub left : turns < most_turns
-  pub books : Books keep mark turns t
-  pub next : chosen t ≡ Some c
-
 -- what is refused neither for want of an active session nor for want of turns
 not_refused : (x y : Bool) → cond x (Some NoneActive) (cond y (Some TurnsUsedUp) None) ≡ None → (x ≡ false) × (y ≡ false)
 not_refused true y e = let z : ◌≡◌ {A = ℕ} 0 1 = cc in absurd (omega arith)
@@ -74,93 +75,94 @@ module _ {C : Type 0} (x : Cell C) (c : ℕ) (e : Ok c ≡ unless (refusal x tur
   passes : (none_active x.table ≡ false) × (leb most_turns x.turns ≡ false)
   passes = not_refused (none_active x.table) (leb most_turns x.turns) (planned (refusal x turn) (found (chosen x.table)) c e).0
 
-  pub turn_left : x.turns < most_turns
+  turn_left : x.turns < most_turns
   turn_left = leb-false most_turns x.turns passes.1
 
-  pub turn_next : chosen x.table ≡ Some c
+  turn_next : chosen x.table ≡ Some c
   turn_next =
       let s = chosen_some x.table passes.0 in
       s.1 ∙ ap Some (sym ((planned (refusal x turn) (found (chosen x.table)) c e).1 ∙ ap found s.1))
 
--- a turn that nothing refuses is accepted
-abbrev pub turn_accepted : {C : Type 0} (x : Cell C) (c : ℕ) → Ok c ≡ unless (refusal x turn) (found (chosen x.table)) → Sound x → Accepted x.keep x.mark x.table c
-turn_accepted x c e b = record { turns = x.turns; left = turn_left x c e; books = b; next = turn_next x c e }
+-- so of a cell of the code, in a turn of place c that nothing refuses
+module _ {C : Type 0} (g : Ghosts C) (picks : (c : C) (l : Line) (o : Offer) → PicksOffered o.entries (g.pick c l o)) (x : TheCell C) (c : ℕ)
+    (e : Ok c ≡ unless (refusal (view x) turn) (found (chosen (table_of x.rows)))) where
+  abbrev M : Meaning C
+  M = meant g
 
--- so its sessions can be offered, and have room for it
-module _ {keep mark : ℕ} {t : Table} {c : ℕ} (a : Accepted keep mark t c) where
-  pub can_offer : Offerable t
-  can_offer = stayed_sound a.books
+  abbrev t : Table
+  t = table_of x.rows
 
-  pub has_room : (j : ℕ) → HasRoom (at t j)
+  law : Lawful M
+  law = lawful g picks
+
+  sound : Sound (view x)
+  sound = books x.ordered
+
+  -- its sessions can be offered
+  pub roll_before : record { sized : length x.rows ≡ places; fair : Offerable t }
+  roll_before = record { sized = rows_sized x.rows x.ordered; fair = stayed_sound sound }
+
+  -- and have room for it
+  has_room : (j : ℕ) → HasRoom (at t j)
   has_room j =
-      let o = a.books.rows j in
-      let left = a.left in
-      record { time = omega (arith, o.early); allowance = omega (arith, o.modest); lag = omega (arith, lag_low a.books j) }
+      let o = sound.rows j in
+      let left = turn_left (view x) c e in
+      record { time = omega (arith, o.early); allowance = omega (arith, o.modest); lag = omega (arith, lag_low sound j) }
 
-module _ {C : Type 0} (M : Meaning C) (law : Lawful M) (keep mark : ℕ) (t : Table) (ch : C) (c : ℕ) (a : Accepted keep mark t c) where
-  abbrev cell : Cell C
-  cell = record { keep = keep; mark = mark; turns = a.turns; table = t; chooser = ch }
-
-  -- a turn that is not refused
-  goes : refusal cell turn ≡ None
+  -- it is not refused
+  goes : refusal (view x) turn ≡ None
   goes =
-      let some : none_active t ≡ false = idle_is t ∙ ap is_none a.next in
-      ap (λ (b : Bool). cond b (Some NoneActive) (cond (leb most_turns a.turns) (Some TurnsUsedUp) None)) some
-      ∙ ap (λ (b : Bool). cond b (Some TurnsUsedUp) None) (lt-leb most_turns a.turns a.left)
+      let some : none_active t ≡ false = idle_is t ∙ ap is_none (turn_next (view x) c e) in
+      ap (λ (b : Bool). cond b (Some NoneActive) (cond (leb most_turns x.turns) (Some TurnsUsedUp) None)) some
+      ∙ ap (λ (b : Bool). cond b (Some TurnsUsedUp) None) (lt-leb most_turns x.turns (turn_left (view x) c e))
 
-  turn_is : step M cell turn ≡ turn_of M cell c
+  turn_is : step M (view x) turn ≡ turn_of M (view x) c
   unfolding step accepted
-  turn_is = ap (outcome M cell turn) goes ∙ ap (λ (o : Option ℕ). turn_of M cell (found o)) a.next
+  turn_is = ap (outcome M (view x) turn) goes ∙ ap (λ (o : Option ℕ). turn_of M (view x) (found o)) (turn_next (view x) c e)
 
   -- what it answers and leaves
-  pub turn_makes : (r : Turn) (u : Table) (m : ℕ) (d : C) → r ≡ answer_of t c (decide M (only ch t) c) →
-      u ≡ departures (turned keep t c r.length (decide M (only ch t) c)) → m ≡ mark_after mark t u →
-      d ≡ all_joins M t u (heard M (only ch t) (decide M (only ch t) c) r.length) →
-      Makes M cell turn (Ok (Turned r)) (record { keep = keep; mark = m; turns = a.turns + 1; table = u; chooser = d })
+  turn_makes : (r : Turn) (u : Table) (m : ℕ) (d : C) → r ≡ answer_of t c (decide M (only x.chooser t) c) →
+      u ≡ departures (turned x.keep t c r.length (decide M (only x.chooser t) c)) → m ≡ mark_after x.mark t u →
+      d ≡ all_joins M t u (heard M (only x.chooser t) (decide M (only x.chooser t) c) r.length) →
+      Makes M (view x) turn (Ok (Turned r)) (record { keep = x.keep; mark = m; turns = x.turns + 1; table = u; chooser = d })
   unfolding turn_after settled
   turn_makes r u m d answered e p q =
-      let makes = makes_of M cell turn _ turn_is in
+      let makes = makes_of M (view x) turn _ turn_is in
       record {
         answer = ap (λ (r : Turn). Ok (Turned r)) answered ∙ makes.answer;
-        cell =
-            (λ i. record { keep = keep; mark = p i; turns = a.turns + 1; table = u; chooser = q i })
-            ∙ ap (λ (v : Table). settled M cell v (a.turns + 1) (heard M (only ch t) (decide M (only ch t) c) r.length)) e
-            ∙ ap (λ (r : Turn). turn_after M cell c (decide M cell c) r.length) answered ∙ makes.cell;
+        after =
+            (λ i. record { keep = x.keep; mark = p i; turns = x.turns + 1; table = u; chooser = q i })
+            ∙ ap (λ (v : Table). settled M (view x) v (x.turns + 1) (heard M (only x.chooser t) (decide M (only x.chooser t) c) r.length)) e
+            ∙ ap (λ (r : Turn). turn_after M (view x) c (decide M (view x) c) r.length) answered ∙ makes.after;
       }
 
   -- the way that the turn goes, and the table that it leaves before departures
-  module _ (w : Way) (is : w ≡ decide M (only ch t) c) where
-    pub handed_other : IfSome (handed_to w) (λ q. c ≡ q → ⊥)
-    handed_other =
-        other t c w (subst (Rightly t (at t c)) (sym is) (decides M law cell c (ordered_of cell a.books)))
+  module _ (w : Way) (is : w ≡ decide M (only x.chooser t) c) where
+    pub can_carry : record { other : IfSome (handed_to w) (λ q. c ≡ q → ⊥); room : (j : ℕ) → HasRoom (at t j) }
+    can_carry = record { other = other t c w (subst (Rightly t (at t c)) (sym is) (decides M law (view x) c (ordered_of (view x) sound))); room = has_room }
 
     module _ (r : Turn) (answered : r ≡ answer_of t c w) where
-      left : turned keep t c r.length w ≡ turned keep t c (length_of t (sender c (decide M (only ch t) c))) (decide M (only ch t) c)
-      left = ap (λ (r : Turn). turned keep t c r.length w) answered ∙ ap (λ (w : Way). turned keep t c (length_of t (sender c w)) w) is
+      left : turned x.keep t c r.length w ≡ turned x.keep t c (length_of t (sender c (decide M (only x.chooser t) c))) (decide M (only x.chooser t) c)
+      left = ap (λ (r : Turn). turned x.keep t c r.length w) answered ∙ ap (λ (w : Way). turned x.keep t c (length_of t (sender c w)) w) is
 
-      pub midway : (u : Table) → u ≡ turned keep t c r.length w → Midway lag_bound u
-      midway u e = subst (Midway lag_bound) (sym (e ∙ left)) (turn_midway M law cell a.books c a.next a.left)
+      pub midway : (u : Table) → u ≡ turned x.keep t c r.length w → Midway lag_bound u
+      midway u e' = subst (Midway lag_bound) (sym (e' ∙ left)) (turn_midway M law (view x) sound c (turn_next (view x) c e) (turn_left (view x) c e))
 
-      pub can_offer_after : (u v : Table) → u ≡ turned keep t c r.length w → v ≡ departures u → Offerable v
+      pub roll_after : (u : Table) (rows : List Row) → u ≡ turned x.keep t c r.length w → table_of rows ≡ departures u →
+          record { sized : length rows ≡ places; fair : Offerable (table_of rows) }
       unfolding turn_after settled
-      can_offer_after u v e d =
-          let is_left = ap (λ (o : Outcome M). o.cell.table) turn_is in
-          subst Offerable (is_left ∙ sym (d ∙ ap departures (e ∙ left))) (stayed_sound (step_sound M law cell turn a.books))
+      roll_after u rows e d =
+          let after : (step M (view x) turn).cell.table ≡ table_of rows = ap (λ (o : Outcome M). o.cell.table) turn_is ∙ sym (d ∙ ap departures (e ∙ left)) in
+          let sound_after = step_sound M law (view x) turn sound in
+          record { sized = sym (length_table rows) ∙ subst (λ (v : Table). length v ≡ places) after sound_after.size; fair = subst Offerable after (stayed_sound sound_after) }
 
       -- and once it has gone its way, the chooser has heard of it and of who joined, and the mark has followed: as the code says it, list by list
-      pub passed : (before : Before) (u v : Table) (m : ℕ) (served joined : C) → before ≡ before_of t → u ≡ turned keep t c r.length w →
-          served ≡ heard M (only ch u) w r.length → v ≡ departures u → m ≡ mark_left before v mark → joined ≡ joins_left M before v served →
-          Makes M cell turn (Ok (Turned r)) (record { keep = keep; mark = m; turns = a.turns + 1; table = v; chooser = joined })
+      pub passed : (before : Before) (u v : Table) (m : ℕ) (served joined : C) → before ≡ before_of t → u ≡ turned x.keep t c r.length w →
+          served ≡ heard M (only x.chooser u) w r.length → v ≡ departures u → m ≡ mark_left before v x.mark → joined ≡ joins_left M before v served →
+          Makes M (view x) turn (Ok (Turned r)) (record { keep = x.keep; mark = m; turns = x.turns + 1; table = v; chooser = joined })
       unfolding mark_after all_joins
       passed before u v m served joined b e hears d marks tells =
-          let hears_so = hears ∙ ap (λ (u : Table). heard M (only ch u) w r.length) e ∙ heard_after M ch keep r.length t c w ∙ ap (λ (w : Way). heard M (only ch t) w r.length) is in
-          turn_makes r v m joined (answered ∙ ap (answer_of t c) is) (d ∙ ap departures (e ∙ ap (turned keep t c r.length) is))
-          (marks ∙ ap (λ (b : Before). mark_left b v mark) b)
+          let hears_so = hears ∙ ap (λ (u : Table). heard M (only x.chooser u) w r.length) e ∙ heard_after M x.chooser x.keep r.length t c w ∙ ap (λ (w : Way). heard M (only x.chooser t) w r.length) is in
+          turn_makes r v m joined (answered ∙ ap (answer_of t c) is) (d ∙ ap departures (e ∙ ap (turned x.keep t c r.length) is))
+          (marks ∙ ap (λ (b : Before). mark_left b v x.mark) b)
           (tells ∙ ap (λ (b : Before). joins_left M b v served) b ∙ ap (joins_left M (before_of t) v) hears_so)
-
-      pub sized_after : (u : Table) (rows : List Row) → u ≡ turned keep t c r.length w → table_of rows ≡ departures u → length rows ≡ places
-      unfolding turn_after settled
-      sized_after u rows e d =
-          let is_left = ap (λ (o : Outcome M). o.cell.table) turn_is in
-          sym (length_table rows)
-          ∙ subst (λ (v : Table). length v ≡ places) (is_left ∙ sym (d ∙ ap departures (e ∙ left))) (step_sound M law cell turn a.books).size

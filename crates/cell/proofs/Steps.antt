@@ -5,15 +5,23 @@ use Rattle.std.specs.Result.{IsErrAnd}
 use Rattle.answer.specs.declared.refusal.Refusal.{Refusal}
 use Rattle.answer.specs.declared.turn.Answer.{Answer}
 use Rattle.answer.specs.declared.turn.Answer.TheVariants.{Done}
+use Rattle.chooser.specs.Offers.{PicksOffered}
+use Rattle.chooser.specs.declared.Chooser.{Ghosts}
+use Rattle.chooser.specs.declared.offer.Offer.{Offer}
 use Rattle.model.proofs.Books.{step_sound}
+use Rattle.model.proofs.Meant.{lawful}
+use Rattle.model.proofs.Order.{books}
 use Rattle.model.proofs.Tables.{at_is, change_is}
 use Rattle.model.specs.Calls.{Call, opening, closing, arrival, report, refusal, arrived, Outcome, changed, accepted, outcome, step}
 use Rattle.model.specs.Cell.{Cell, settled}
-use Rattle.model.specs.Meaning.{Meaning, Lawful}
+use Rattle.model.specs.Lists.{Line}
+use Rattle.model.specs.Meaning.{Meaning, meant}
 use Rattle.model.specs.Session.{Frame, Session, vacant, fresh, with_good}
 use Rattle.model.specs.Sound.{Sound}
 use Rattle.model.specs.Table.{Table, at, change}
 use Rattle.tariff.specs.Tariff.{price_of}
+use Rattle.cell.specs.View.{view}
+use Rattle.cell.specs.declared.state.Cell.{Cell as TheCell}
 use Rattle.cell.specs.Found.{with_chooser, with_session, BooksInOrder}
 use Rattle.cell.specs.Plans.{unless, plan}
 
@@ -34,19 +42,15 @@ change_to t k f s e =
 
 module _ {C : Type 0} (M : Meaning C) (x : Cell C) where
   -- session s at place k, the chooser being c before it hears of joins
-  abbrev pub left : ℕ → Session → C → Cell C
+  abbrev left : ℕ → Session → C → Cell C
   left k s c = with_session M (with_chooser x c) k s
 
   -- what the definition makes of a call: its answer, and the cell that it leaves
-  pub record Makes (call : Call) (r : Result Answer Refusal) (y : Cell C) : Type 0 where
-    pub answer : r ≡ (step M x call).answer
-    pub cell : y ≡ (step M x call).cell
-
-  pub in_order : (call : Call) (r : Result Answer Refusal) (y : Cell C) → Makes call r y → Lawful M → Sound x → BooksInOrder y
-  in_order call r y m law b = ∣ subst Sound (sym m.cell) (step_sound M law x call b) ∣₁
+  abbrev pub Makes : Call → Result Answer Refusal → Cell C → Type 0
+  Makes call r y = record { answer : r ≡ (step M x call).answer; after : y ≡ (step M x call).cell }
 
   pub makes_of : (call : Call) (o : Outcome M) → step M x call ≡ o → Makes call o.answer o.cell
-  makes_of call o is = record { answer = sym (ap (λ (o : Outcome M). o.answer) is); cell = sym (ap (λ (o : Outcome M). o.cell) is) }
+  makes_of call o is = record { answer = sym (ap (λ (o : Outcome M). o.answer) is); after = sym (ap (λ (o : Outcome M). o.cell) is) }
 
   accepts : (call : Call) → refusal x call ≡ None → step M x call ≡ accepted M x call
   unfolding step
@@ -68,29 +72,7 @@ module _ {C : Type 0} (M : Meaning C) (x : Cell C) where
       let p = planned (refusal x call) (place, f (at x.table place)) (k, s) e in
       let here = ap (λ p. p.0) p.1 in
       let m = makes_of call _ (accepts call p.0 ∙ is) in
-      record { answer = m.answer; cell = changed_to place f k s c d here (ap (λ p. p.1) p.1) (h here) ∙ m.cell }
-
-  pub opening_makes : (place rate k : ℕ) (s : Session) (d : C) → Ok (k, s) ≡ plan x (opening place rate) place (fresh rate (price_of rate)) →
-      d ≡ M.cleared x.chooser k → Makes (opening place rate) (Ok Done) (left k s d)
-  unfolding accepted
-  opening_makes place rate k s d e h =
-      makes (opening place rate) place (λ _. fresh rate (price_of rate)) k s (M.cleared x.chooser place) d refl (λ p. h ∙ ap (M.cleared x.chooser) p) e
-
-  pub closing_makes : (place k : ℕ) (s : Session) → Ok (k, s) ≡ plan x (closing place) place vacant →
-      Makes (closing place) (Ok Done) (left k s x.chooser)
-  unfolding accepted
-  closing_makes place k s = makes (closing place) place (λ _. vacant) k s x.chooser x.chooser refl (λ _. refl)
-
-  pub arrival_makes : (place : ℕ) (f : Frame) (k : ℕ) (s : Session) →
-      Ok (k, s) ≡ plan x (arrival place f.tag f.length) place (arrived x.mark f (at x.table place)) →
-      Makes (arrival place f.tag f.length) (Ok Done) (left k s x.chooser)
-  unfolding accepted
-  arrival_makes place f k s = makes (arrival place f.tag f.length) place (arrived x.mark f) k s x.chooser x.chooser refl (λ _. refl)
-
-  pub report_makes : (place : ℕ) (good : Bool) (k : ℕ) (s : Session) →
-      Ok (k, s) ≡ plan x (report place good) place (with_good good (at x.table place)) → Makes (report place good) (Ok Done) (left k s x.chooser)
-  unfolding accepted
-  report_makes place good k s = makes (report place good) place (with_good good) k s x.chooser x.chooser refl (λ _. refl)
+      record { answer = m.answer; after = changed_to place f k s c d here (ap (λ p. p.1) p.1) (h here) ∙ m.after }
 
   -- a refused call answers why, and leaves the cell as it was
   module _ {X Y : Type 0} (reads : Result Y Refusal → Result Answer Refusal) (err : (why : Refusal) → reads (Err why) ≡ Err why) where
@@ -99,4 +81,46 @@ module _ {C : Type 0} (M : Meaning C) (x : Cell C) where
     refused call p why e r h =
         let m = makes_of call _ (refuses call why (not_planned (refusal x call) p why e)) in
         let is = err_from_is_err_and r h in
-        record { answer = ap reads (is.1 ∙ ap Err is.2) ∙ err why ∙ m.answer; cell = m.cell }
+        record { answer = ap reads (is.1 ∙ ap Err is.2) ∙ err why ∙ m.answer; after = m.after }
+
+-- a cell of the code has its books in order, and so has what a call leaves
+pub in_order : {C : Type 0} (g : Ghosts C) → ((c : C) (l : Line) (o : Offer) → PicksOffered o.entries (g.pick c l o)) → (x : TheCell C)
+    (call : Call) (r : Result Answer Refusal) (y : Cell C) → Makes (meant g) (view x) call r y → BooksInOrder y
+in_order g picks x call r y m =
+    let sound = step_sound (meant g) (lawful g picks) (view x) call (books x.ordered) in
+    ∣ subst Sound (sym m.after) sound ∣₁
+
+-- ---- each call, of a cell with these parts
+
+module _ {C : Type 0} (M : Meaning C) (keep mark turns : ℕ) (t : Table) (c : C) where
+  abbrev cell : Cell C
+  cell = record { keep = keep; mark = mark; turns = turns; table = t; chooser = c }
+
+  pub opens : (place rate k : ℕ) (s : Session) (d : C) → Ok (k, s) ≡ plan cell (opening place rate) place (fresh rate (price_of rate)) →
+      d ≡ M.cleared c k → Makes M cell (opening place rate) (Ok Done) (left M cell k s d)
+  unfolding accepted
+  opens place rate k s d e h =
+      makes M cell (opening place rate) place (λ _. fresh rate (price_of rate)) k s (M.cleared c place) d refl (λ p. h ∙ ap (M.cleared c) p) e
+
+  pub closes : (place k : ℕ) (s : Session) → Ok (k, s) ≡ plan cell (closing place) place vacant → Makes M cell (closing place) (Ok Done) (left M cell k s c)
+  unfolding accepted
+  closes place k s = makes M cell (closing place) place (λ _. vacant) k s c c refl (λ _. refl)
+
+  pub arrives : (place : ℕ) (f : Frame) (k : ℕ) (s : Session) → Ok (k, s) ≡ plan cell (arrival place f.tag f.length) place (arrived mark f (at t place)) →
+      Makes M cell (arrival place f.tag f.length) (Ok Done) (left M cell k s c)
+  unfolding accepted
+  arrives place f k s = makes M cell (arrival place f.tag f.length) place (arrived mark f) k s c c refl (λ _. refl)
+
+  pub reports : (place : ℕ) (good : Bool) (k : ℕ) (s : Session) → Ok (k, s) ≡ plan cell (report place good) place (with_good good (at t place)) →
+      Makes M cell (report place good) (Ok Done) (left M cell k s c)
+  unfolding accepted
+  reports place good k s = makes M cell (report place good) place (with_good good) k s c c refl (λ _. refl)
+
+  -- what its clauses say of its answer, and of the cell z that the code leaves
+  pub answers : (call : Call) (r : Result Answer Refusal) (y : Cell C) → Makes M cell call r y → r ≡ (step M cell call).answer
+  answers call r y m = m.answer
+
+  pub leaves : (call : Call) (r : Result Answer Refusal) (y z : Cell C) → z ≡ y → Makes M cell call r y → z ≡ (step M cell call).cell
+  leaves call r y z e m = e ∙ m.after
+
+pub ruleset calls = (opens, closes, arrives, reports, answers, leaves)

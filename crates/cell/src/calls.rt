@@ -47,6 +47,7 @@ impl<C: Chooser> Cell<C> {
     }
 
     // Opens a place at a rate of the tariff.
+    #[tactic(auto, using(crate::proofs::Steps::calls))]
     pub fn open(&mut self, place: u8, rate: u32) -> Result<(), Refusal>
         ensures answer { answered result ≡
             (step (meant C.Chooser) (view self.old)
@@ -62,6 +63,7 @@ impl<C: Chooser> Cell<C> {
     }
 
     // Closes a place whose session is not active, once the mark has come up to its virtual time.
+    #[tactic(auto, using(crate::proofs::Steps::calls))]
     pub fn close(&mut self, place: u8) -> Result<(), Refusal>
         ensures answer { answered result ≡
             (step (meant C.Chooser) (view self.old) (closing place)
@@ -76,6 +78,7 @@ impl<C: Chooser> Cell<C> {
     }
 
     // Queues a frame that has come for a place.
+    #[tactic(auto, using(crate::proofs::Steps::calls))]
     pub fn arrive(&mut self, place: u8, frame: Frame) -> Result<(), Refusal>
         ensures answer { answered result ≡
             (step (meant C.Chooser) (view self.old)
@@ -90,6 +93,7 @@ impl<C: Chooser> Cell<C> {
     }
 
     // Sets whether the channel of a place is good.
+    #[tactic(auto, using(crate::proofs::Steps::calls))]
     pub fn report(&mut self, place: u8, good: bool) -> Result<(), Refusal>
         ensures answer { answered result ≡
             (step (meant C.Chooser) (view self.old)

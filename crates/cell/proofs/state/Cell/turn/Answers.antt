@@ -7,5 +7,4 @@ use Rattle.cell.proofs.state.Cell.turn.Goals as goal
 
 pub returns-in_err-chosen : goal.returns-in_err-chosen
 returns-in_err-chosen g c =
-    let r = refused (meant g.C.Chooser) (view c.args.self.now) turned_as (λ _. refl) _ _ _ c.in_err-chosen.ensures _ c.from_residual.ensures.1 in
-    record { answer = r.answer; after = r.cell }
+    refused (meant g.C.Chooser) (view c.args.self.now) turned_as (λ _. refl) _ _ _ c.in_err-chosen.ensures _ c.from_residual.ensures.1
