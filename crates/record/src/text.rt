@@ -8,6 +8,7 @@ ghost use Rattle.record.specs.Writing.{after as buffer_after};
 use crate::event::Event;
 use crate::parts::Parts;
 use answer::{Answer, Refusal, Sent, Turn};
+use arrayvec::ArrayVec;
 use itoa::{Buffer, Integer};
 use std::marker::Model;
 
@@ -16,17 +17,12 @@ pub const LINE: usize = 64;
 
 // The text so far, in memory of its own: nothing here is on the heap. What has no room is left out, and no line is so long.
 #[derive(Drop)]
-pub(crate) struct Text {
-    bytes: [u8; LINE],
-    len: usize,
-}
+pub(crate) struct Text(ArrayVec<u8, LINE>);
 
 impl Model for Text {
     ghost Value = { List ℕ };
 
-    ghost view = { λ t. take t.len t.bytes };
-
-    ghost invariant = { λ t. t.len ≤ 64 };
+    ghost view = { λ t. t.0.items };
 }
 
 impl Text {
@@ -62,27 +58,20 @@ impl Text {
         if out.len() < LINE {
             return Err(Refusal::BufferTooShort);
         }
-        out[..self.len].copy_from_slice(&self.bytes[..self.len]);
-        Ok(self.len)
+        out[..self.0.len()].copy_from_slice(&self.0);
+        Ok(self.0.len())
     }
 
     fn new() -> Text
         ensures { result ≡ [] }
     {
-        Text {
-            bytes: [0; LINE],
-            len: 0,
-        }
+        Text(ArrayVec::new())
     }
 
     fn push(&mut self, more: &[u8])
         ensures { Appends self.old more.now self.new }
     {
-        let end = self.len + more.len();
-        if end <= LINE {
-            self.bytes[self.len..end].copy_from_slice(more);
-            self.len = end;
-        }
+        let _ = self.0.try_extend_from_slice(more);
     }
 
     fn push_number<N: Integer>(&mut self, n: N)

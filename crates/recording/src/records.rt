@@ -1,41 +1,40 @@
 // The records of an input, one after the other.
-ghost use Rattle.std.specs.Prelude.{◌≡◌, ◌+◌, ◌-◌, ◌<◌, ◌≤◌, take, MatchOption, IfOk};
+ghost use Rattle.std.specs.Prelude.{◌≡◌, ◌+◌, ◌-◌, ◌<◌, ◌≤◌, MatchOption, IfOk};
 ghost use Rattle.std.specs.Iterator.{at_most};
+ghost use Rattle.arrayvec.specs.ArrayVec.{array_vec_len};
 ghost use Rattle.recording.specs.Taking.{Takes};
 
 use crate::{RECORDS, fill};
+use arrayvec::ArrayVec;
 use std::io;
 use std::io::Read;
 use std::ops::Range;
 
-// What was read of a record: its sixteen bytes, or fewer where the input ends in it. An array and how much of it counts,
-// since an iterator cannot lend its buffer.
+// What was read of a record: its sixteen bytes, or fewer where the input ends in it. They are the record's own, since an
+// iterator cannot lend its buffer.
 #[derive(Drop)]
 pub struct Record {
     pub number: u64,
-    bytes: [u8; 16],
-    size: usize,
-    ghost inside: { size ≤ 16 },
+    bytes: ArrayVec<u8, 16>,
+    ghost inside: { array_vec_len bytes ≤ 16 },
 }
 
 impl Record {
     fn read<R: Read>(reader: &mut R, number: u64) -> io::Result<Record>
         ensures number { IfOk result (λ rec. rec.number ≡ number) }
-        ensures bytes { IfOk result (λ rec. Takes (R.remaining reader.old) (R.remaining reader.new) rec.bytes rec.size) }
+        ensures bytes { IfOk result (λ rec. Takes (R.remaining reader.old) (R.remaining reader.new) rec.bytes.items (array_vec_len rec.bytes)) }
     {
         let mut bytes = [0u8; 16];
         let size = fill(reader, &mut bytes)?;
-        Ok(Record {
-            number,
-            bytes,
-            size,
-        })
+        let mut bytes = ArrayVec::from(bytes);
+        bytes.truncate(size);
+        Ok(Record { number, bytes })
     }
 
     pub fn bytes(&self) -> &[u8]
-        ensures { result.now ≡ take self.now.size self.now.bytes }
+        ensures { result.now ≡ self.now.bytes.items }
     {
-        &self.bytes[..self.size]
+        &self.bytes
     }
 }
 
@@ -65,7 +64,7 @@ impl<R: Read + Drop> Iterator for Records<R> {
     ghost next_gives = { λ s r t.
         MatchOption r (s.numbers.end ≤ s.numbers.start) (λ read.
         IfOk read (λ rec. (rec.number ≡ s.numbers.start)
-        × Takes (R.remaining s.reader) (R.remaining t.reader) rec.bytes rec.size)
+        × Takes (R.remaining s.reader) (R.remaining t.reader) rec.bytes.items (array_vec_len rec.bytes))
         × (s.numbers.start < s.numbers.end)
         × (t.numbers.start ≡ s.numbers.start + 1) × (t.numbers.end ≡ s.numbers.end)) };
 
