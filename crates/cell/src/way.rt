@@ -1,5 +1,6 @@
 // How the turn of the chosen session goes. It is decided once and read twice, by the turn and by the telling.
-// Tried with closures: they would borrow the rows that the turn changes; given the rows, `decide` would need a clause for each closure's call and effect.
+// Tried with closures: they would borrow the rows that the turn changes; given the rows, `decide` would need a clause for each
+// closure's call and effect.
 use chooser::{Line, Place};
 
 #[derive(Clone, Copy)]

@@ -38,8 +38,8 @@ impl Record {
     }
 }
 
-// Counts the records from 1 on, up to the limit. Past the end of the input they are empty:
-// `read` of `record` says of an empty record that there is none, and nobody else has to.
+// Counts the records from 1 on, up to the limit. Past the end of the input they are empty, and no `None` ends them: of an empty
+// record `read` of `record` answers that there is none, as it has to.
 #[derive(Drop)]
 pub struct Records<R> {
     reader: R,

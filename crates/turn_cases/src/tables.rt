@@ -29,7 +29,7 @@ pub(crate) enum Given {
 }
 
 impl Given {
-    // The answer of a cell that says it. No `From`: it is mapped over a row by its name.
+    // The answer of a cell that says it. No `From`: `Result::from` would not say whose answer it is.
     pub(crate) fn answer(self) -> Result<Turn, Refusal> {
         match self {
             Given::Sent(chosen, sender, tag, length, kind) => Ok(Turn {
