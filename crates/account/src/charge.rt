@@ -53,6 +53,7 @@ fn cost(bytes: u16, price: u32) -> u64
     u64::from(bytes) * u64::from(price)
 }
 
+// A product as well, but of numbers with other bounds, which the sums above rely on.
 fn times(parts: u8, charge: u64) -> u64
     requires { charge < 2 ^ 48 }
     ensures is { result ≡ parts * charge }

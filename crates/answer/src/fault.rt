@@ -8,8 +8,8 @@ use std::fmt;
 // Who refused: the reader and writer of records, or the cell.
 #[derive(Clone, Copy, PartialEq, Eq, Debug)]
 pub enum Layer {
-    Record,
-    Cell,
+    Record = 0,
+    Cell = 1,
 }
 
 impl fmt::Display for Layer {
@@ -23,8 +23,8 @@ impl fmt::Display for Layer {
     }
 }
 
-// The record number counts from 1, and is 0 on writing; the byte is 0 where no byte is at fault. Zeros and no `Option`: `reclist`,
-// `joblags` and C show them as they are.
+// The record number counts from 1, and is 0 on writing; the byte is 0 where no byte is at fault. Zeros and no `Option`: `reclist` and
+// `joblags` show both as they are, and C the byte.
 #[derive(Clone, Copy, PartialEq, Eq, Debug)]
 pub struct Fault {
     pub refusal: Refusal,

@@ -32,7 +32,7 @@ impl From<Kind> for u8 {
     }
 }
 
-// The place that sent, and the tag of its frame. A place is a number here: the type `Place` stands above this crate.
+// The place that sent, and the tag of its frame. A place is a number here, as a line and C show it: all would ask a `Place` for it.
 #[derive(Clone, Copy, PartialEq, Eq, Debug)]
 pub struct Sent {
     pub sender: u8,

@@ -5,7 +5,8 @@ ghost use Rattle.table.specs.Places.{table_of};
 use least_served::LeastServed;
 use session::Row;
 
-// The parts of a `Cell<LeastServed>` in C's layout: C takes no generic struct, nor one that holds one.
+// The parts of a `Cell<LeastServed>` in C's layout: C takes no generic struct, nor one that holds one, nor a model whose fields cannot
+// be given back.
 #[repr(C)]
 #[derive(Drop)]
 pub struct Unit {

@@ -42,14 +42,7 @@ impl<C> Cell<C> {
         ensures is { result ≡ booked_total (view self.now).table }
         ensures most { result ≤ link }
     {
-        self.total() as u32
-    }
-
-    fn total(&self) -> u64
-        ensures is { result ≡ booked_total (view self.now).table }
-        ensures most { result ≤ link }
-    {
-        booked_total(&self.rows)
+        booked_total(&self.rows) as u32
     }
 
     // How many turns the cell has accepted.

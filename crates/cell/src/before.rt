@@ -15,6 +15,7 @@ pub(crate) struct Before {
     pub(crate) idle: bool,
 }
 
+// No `From`: the name says that it is looked at now, before the rows change.
 pub(crate) fn look(rows: &[Row; 64]) -> Before
     ensures { result ≡ before_of (table_of rows.now) }
 {

@@ -6,7 +6,8 @@ use std::process::Abort;
 use std::str;
 use std::test::Fail;
 
-// A record's letter, place, length and value, and what is printed of it.
+// A record's letter, place, length and value, and what is printed of it. Bytes and no `Event`: one letter is none of the six, and what is
+// expected does not come from the code that is tested.
 type Row<'a> = (u8, u8, u16, u32, &'a str);
 
 fn prints(rt: &impl Abort, alloc: Global, rows: &[Row]) -> Result<(), Fail> {

@@ -19,7 +19,7 @@ impl Place {
         }
     }
 
-    // As calls and answers name it.
+    // As calls and answers name it. No `From`, here and below: two numbers come of a place, and their names say for what.
     pub fn number(self) -> u8
         ensures { result ≡ self.number }
     {

@@ -5,6 +5,7 @@ ghost use Rattle.joblags.specs.Balances.{balance_of};
 use std::cmp::Ordering;
 use std::fmt;
 
+// `Ordering` has no words to print.
 #[derive(Clone, Copy, PartialEq, Eq, Debug)]
 pub(crate) enum Balance {
     // the session is owed bytes

@@ -39,8 +39,8 @@ fn print<C, W: Write>(cell: &Cell<C>, after: u64, out: &mut W) -> io::Result<()>
     write!(out, "{}", Sheet { after, cell })
 }
 
-// Plays the records up to the end, a fault of a record or the limit, with the sheets that are due meanwhile. Cell, input and output
-// are the caller's, and go on from here one by one.
+// Plays the records up to the end, a fault of a record or the limit, with the sheets that are due meanwhile. (A struct of
+// cell, `every`, input and output would be made in `main` for one call, and taken apart here.)
 fn play_all<C: Chooser, R: Read, W: Write>(
     cell: &mut Cell<C>,
     every: Option<NonZeroU64>,

@@ -15,7 +15,8 @@ mod slots;
 pub use frame::Frame;
 use ring::{ROOM, Ring};
 
-// At most 32 frames, first in first out, in memory of its own.
+// At most 32 frames, first in first out, in memory of its own. No `impl Model`: it is copied, and old frames of its ring cannot be given
+// back from those that wait.
 #[repr(C)]
 #[derive(Clone, Copy)]
 pub struct Queue {

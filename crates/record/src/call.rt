@@ -1,4 +1,4 @@
-// What a cell can be asked to do.
+// What a cell can be asked to do. Good and bad are two, as their letters are. No closures: a call is read, written and counted too.
 #[derive(Clone, Copy, PartialEq, Eq, Debug)]
 pub enum Call {
     Open { place: u8, rate: u32 },

@@ -6,7 +6,7 @@ use crate::call::Call;
 use crate::letter::Letter;
 use crate::parts::Parts;
 
-// A call with the note of its record, a part of the bytes that were read.
+// A call with the note of its record, a part of the bytes that were read. No `impl Model`: what borrows and is copied can have none.
 #[derive(Clone, Copy, PartialEq, Eq, Debug)]
 pub struct Event<'a> {
     pub call: Call,

@@ -131,7 +131,7 @@ impl Text {
         }
     }
 
-    // Number, letter and result.
+    // Number, letter and result. The letter is a byte: where no event was read it is `?`, which is no letter.
     fn push_head(&mut self, number: u64, letter: u8, res: Result<Answer, Refusal>)
         ensures text { Appends self.old (head_text number letter res) self.new }
         ensures short { length (head_text number letter res) ≤ 49 }

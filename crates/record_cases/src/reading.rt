@@ -1,7 +1,7 @@
 // Reading: every letter, every fault, at every byte.
 ghost use Rattle.std.specs.Prelude.{◌<◌};
 
-use super::samples::{ARRIVE, BAD, CLOSE, GOOD, OPEN, RECORDS, SAID, TURN, fault};
+use super::samples::{ARRIVE, BAD, CLOSE, GOOD, OPEN, SAID, TURN, fault};
 use answer::{Fault, Refusal};
 use record::{Letter, read};
 use std::test::Fail;
@@ -44,7 +44,7 @@ fn bytes_past_the_record_follow_it(rt: HostRuntime) -> Result<(), Fail> {
 
 #[test]
 fn a_fragment_of_any_length_is_truncated(rt: HostRuntime) {
-    for record in RECORDS {
+    for (record, _) in &SAID {
         // the length itself is what is tried
         for n in 1..16 {
             let expected = fault(Refusal::TruncatedRecord, 9, n);
@@ -90,7 +90,7 @@ fn an_unused_byte_has_to_be_zero(rt: HostRuntime) {
 
 #[test]
 fn a_note_is_printable(rt: HostRuntime) {
-    for record in RECORDS {
+    for (record, _) in &SAID {
         // the byte's number is what is tried
         for at in 8..16 {
             for (b, good) in [
@@ -103,7 +103,7 @@ fn a_note_is_printable(rt: HostRuntime) {
                 (255, false),
             ] {
                 let expected = (!good).then_some(fault(Refusal::NoteNotPrintable, 5, at));
-                assert_eq!(rt; fault_with(record, at, b, 5), expected);
+                assert_eq!(rt; fault_with(*record, at, b, 5), expected);
             }
         }
     }

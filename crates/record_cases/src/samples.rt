@@ -30,9 +30,7 @@ pub const TURN: [u8; 16] = [
     b'T', 0, 0, 0, 0, 0, 0, 0, b'-', b'-', b'-', b'-', b'-', b'-', b'-', b'-',
 ];
 
-pub const RECORDS: [[u8; 16]; 6] = [OPEN, CLOSE, ARRIVE, GOOD, BAD, TURN];
-
-// Each with the event that it says.
+// Each record with the event that it says.
 pub const SAID: [([u8; 16], Event<'static>); 6] = [
     (
         OPEN,

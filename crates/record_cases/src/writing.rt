@@ -1,5 +1,5 @@
 // Writing: every letter, both refusals, and what is left of the buffer.
-use super::samples::{RECORDS, SAID, fault, into_first};
+use super::samples::{SAID, fault, into_first};
 use answer::{Fault, Refusal};
 use record::{Call, Event, read, write};
 use std::process::Abort;
@@ -47,9 +47,9 @@ fn numbers_are_little_endian(rt: HostRuntime) {
 
 #[test]
 fn what_was_read_is_written_back(rt: HostRuntime) -> Result<(), Fail> {
-    for record in RECORDS {
-        let (event, _) = read(&record, 1)?.ok_or("no record")?;
-        writes(&rt, &event, &record);
+    for (record, _) in &SAID {
+        let (event, _) = read(record, 1)?.ok_or("no record")?;
+        writes(&rt, &event, record);
     }
     Ok(())
 }

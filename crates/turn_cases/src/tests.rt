@@ -3,24 +3,31 @@ use super::runs::{play, run, stand};
 use super::tables::{Given, LARGEST, LEAST, MIXED, Outcome, Step, TWENTY, TWENTY_OUTCOME};
 use answer::{Kind, Refusal};
 use cell::Cell;
+use chooser::Chooser;
 use largest_debt::LargestDebt;
 use least_served::LeastServed;
+use std::process::Abort;
 use std::test::Fail;
 
-#[test]
-fn largest_debt_with_every_keep(rt: HostRuntime) -> Result<(), Fail> {
-    for (keep, outcome) in &LARGEST {
-        run(&rt, *keep, LargestDebt, &MIXED, outcome)?;
+fn with_every_keep<C: Chooser + Copy + Drop>(
+    rt: &impl Abort,
+    chooser: C,
+    outcomes: &[(u8, Outcome)],
+) -> Result<(), Fail> {
+    for (keep, outcome) in outcomes {
+        run(rt, *keep, chooser, &MIXED, outcome)?;
     }
     Ok(())
 }
 
 #[test]
+fn largest_debt_with_every_keep(rt: HostRuntime) -> Result<(), Fail> {
+    with_every_keep(&rt, LargestDebt, &LARGEST)
+}
+
+#[test]
 fn least_served_with_every_keep(rt: HostRuntime) -> Result<(), Fail> {
-    for (keep, outcome) in &LEAST {
-        run(&rt, *keep, LeastServed::new(), &MIXED, outcome)?;
-    }
-    Ok(())
+    with_every_keep(&rt, LeastServed::new(), &LEAST)
 }
 
 #[test]

@@ -15,7 +15,7 @@ const RATE: u32 = 11_088;
 
 const LENGTH: u16 = 1_000;
 
-// Every place opens, with two frames.
+// Every place opens, with two frames. A refusal is not looked at, here and below: it would show in the turns and the mark.
 fn fill<C: Chooser>(cell: &mut Cell<C>) {
     // the number itself is what is opened
     for place in 0..64 {
@@ -43,6 +43,7 @@ fn frame(tag: u32) -> Frame {
 }
 
 fn main(rt: HostRuntime) -> io::Result<()> {
+    // no `new_cell` of `replay`: nothing is played
     let mut cell = Cell::new(2, LeastServed::new()).unwrap();
     fill(&mut cell);
     let start = Instant::now(&rt)?;
