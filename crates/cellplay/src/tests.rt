@@ -55,6 +55,35 @@ fn a_leading_session_keeps_half(rt: HostRuntime) -> Result<(), Fail> {
     )
 }
 
+// Places 0 and 1 fade while place 2 sends 100 and 1500 bytes in their turns. Nobody has been paid back yet, so that place 0 comes
+// first, though place 1 is owed more.
+#[test]
+fn the_least_served_is_paid_back(rt: HostRuntime) -> Result<(), Fail> {
+    prints(
+        &rt,
+        rt.alloc(),
+        &[
+            (b'O', 0, 0, 240_240, "1 O ok --------\n"),
+            (b'O', 1, 0, 240_240, "2 O ok --------\n"),
+            (b'O', 2, 0, 240_240, "3 O ok --------\n"),
+            (b'B', 0, 0, 0, "4 B ok --------\n"),
+            (b'B', 1, 0, 0, "5 B ok --------\n"),
+            (b'A', 0, 100, 1, "6 A ok --------\n"),
+            (b'A', 1, 100, 2, "7 A ok --------\n"),
+            (b'A', 2, 100, 3, "8 A ok --------\n"),
+            (b'A', 2, 1500, 4, "9 A ok --------\n"),
+            (b'A', 2, 50, 5, "10 A ok --------\n"),
+            (b'A', 2, 100, 6, "11 A ok --------\n"),
+            (b'T', 0, 0, 0, "12 T 0/2/3/100/x --------\n"),
+            (b'T', 0, 0, 0, "13 T 1/2/4/1500/x --------\n"),
+            (b'G', 0, 0, 0, "14 G ok --------\n"),
+            (b'G', 1, 0, 0, "15 G ok --------\n"),
+            (b'T', 0, 0, 0, "16 T 2/2/5/50/n --------\n"),
+            (b'T', 0, 0, 0, "17 T 2/0/1/100/c --------\n"),
+        ],
+    )
+}
+
 // No record has the letter X. Two good ones come after it.
 #[test]
 fn nothing_is_played_after_a_fault(rt: HostRuntime) -> Result<(), Fail> {
