@@ -23,7 +23,7 @@ fail() {
 }
 
 if [ "${1:-}" != --built ]; then
-    (cd crates/base_unit && rt lib) > "$dir/rt" 2>&1 || { tail -20 "$dir/rt"; exit 2; }
+    docs/src/make_library.sh > "$dir/rt" 2>&1 || { tail -20 "$dir/rt"; exit 2; }
     grep "^logic=" "$dir/rt" | tail -1
 fi
 

@@ -8,7 +8,7 @@
 #
 #   --cellplay PATH  the program (crates/cellplay/out/cellplay); none: lines from the library only
 #   --library PATH   the C library (crates/base_unit/out/libbase_unit.a); none: no states
-#   --build          first make both, in their folders: rt run, rt lib
+#   --build          first make both: rt run in cellplay, make_library.sh
 #   --records N      how many to play, at least (20,000,000)
 #   --every N        a state after every Nth record of the long recordings (10)
 #   --seed S         the first seed (1); each round of profiles takes the next
@@ -60,7 +60,7 @@ while [ $# -gt 0 ]; do
 done
 
 if [ $build = yes ]; then
-    (cd "$root/crates/cellplay" && rt run < /dev/null) && (cd "$root/crates/base_unit" && rt lib) || stop "not built"
+    (cd "$root/crates/cellplay" && rt run < /dev/null) && "$here/make_library.sh" || stop "not built"
 fi
 case $cellplay in
 none | self) ;;

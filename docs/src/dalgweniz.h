@@ -1,6 +1,6 @@
 /* Dalgweniz for C: one radio cell of 64 places in the caller's memory, with keep 0 to 4 and the chooser "least served".
  *
- * Link with libbase_unit.a (`rt lib` in crates/base_unit writes it to out/ there). docs/C-LIBRARY.md tells the rest.
+ * Link with libbase_unit.a (docs/src/make_library.sh writes it to crates/base_unit/out). docs/C-LIBRARY.md tells the rest.
  *
  * Every function answers on every number it is given. A function that can refuse answers 0 for done, and otherwise the number
  * of the refusal; a refusal leaves the cell, every out-struct and every buffer as they were.
