@@ -1,14 +1,14 @@
 #!/bin/sh
 # Plays random recordings into cellplay, into the C library and into the reference, and
 # compares byte for byte: cellplay's lines with the reference's, and the lines and whole
-# states that states.c has from the library with the reference's. Stops at the first
+# states that c/states.c has from the library with the reference's. Stops at the first
 # difference. docs/COMPARISON.md tells what has been seen.
 #
 #   docs/src/compare.sh [options]
 #
 #   --cellplay PATH  the program (crates/cellplay/out/cellplay); none: lines from the library only
-#   --library PATH   the C library (crates/base_unit/out/libbase_unit.a); none: no states
-#   --build          first make both: rt run in cellplay, make_library.sh
+#   --library PATH   the C library (c/out/libdalgweniz.a); none: no states
+#   --build          first make both: rt run in cellplay, c/make_library.sh
 #   --records N      how many to play, at least (20,000,000)
 #   --every N        a state after every Nth record of the long recordings (10)
 #   --seed S         the first seed (1); each round of profiles takes the next
@@ -23,7 +23,7 @@
 here=$(cd "$(dirname "$0")" && pwd) || exit 2
 root=$(cd "$here/../.." && pwd) || exit 2
 cellplay=$root/crates/cellplay/out/cellplay
-library=$root/crates/base_unit/out/libbase_unit.a
+library=$root/c/out/libdalgweniz.a
 reference=$here/reference.rs
 wanted=20000000
 every=10
@@ -60,7 +60,7 @@ while [ $# -gt 0 ]; do
 done
 
 if [ $build = yes ]; then
-    (cd "$root/crates/cellplay" && rt run < /dev/null) && "$here/make_library.sh" || stop "not built"
+    (cd "$root/crates/cellplay" && rt run < /dev/null) && "$root/c/make_library.sh" || stop "not built"
 fi
 case $cellplay in
 none | self) ;;
@@ -127,7 +127,7 @@ fi
 rustc -O --edition 2021 "$reference" -o "$dir/reference" || stop "the reference doesn't build"
 rustc -O --edition 2021 "$here/generate.rs" -o "$dir/generate" || stop "the generator doesn't build"
 if [ "$library" != none ]; then
-    gcc -O2 -I "$here" "$here/states.c" "$library" -o "$dir/states" || stop "states.c doesn't build"
+    gcc -O2 -I "$root/c" "$root/c/states.c" "$library" -o "$dir/states" || stop "states.c doesn't build"
 fi
 mkfifo "$dir/from_reference" "$dir/from_states" || exit 2
 : > "$dir/tallies"

@@ -1,18 +1,18 @@
 #!/bin/sh
-# Builds the C library and tests it from C: docs/src/dalgweniz.h says what crates/base_unit/src exports, the player in C prints
-# what cellplay prints, and docs/src/unit_test.c finds nothing wrong, also under gcc's sanitizers and under valgrind.
+# Builds the C library and tests it from C: c/dalgweniz.h says what crates/base_unit/src exports, the player in C prints
+# what cellplay prints, and c/unit_test.c finds nothing wrong, also under gcc's sanitizers and under valgrind.
 #
-#   docs/src/c_library.sh [--built]
+#   c/c_library.sh [--built]
 #
-# --built   takes crates/base_unit/out/libbase_unit.a as it is
+# --built   takes c/out/libdalgweniz.a as it is
 #
 # Its last line is 'c_library.sh: ok'. Exit status: 0 all as it should be, 1 something differs, 2 it couldn't be run.
 
 set -u
 here=$(cd "$(dirname "$0")" && pwd) || exit 2
-cd "$here/../.." || exit 2
-library=crates/base_unit/out/libbase_unit.a
-header=docs/src/dalgweniz.h
+cd "$here/.." || exit 2
+library=c/out/libdalgweniz.a
+header=c/dalgweniz.h
 dir=$(mktemp -d) || exit 2
 trap 'rm -rf "$dir"' EXIT
 trap 'exit 2' INT TERM
@@ -23,7 +23,7 @@ fail() {
 }
 
 if [ "${1:-}" != --built ]; then
-    docs/src/make_library.sh > "$dir/rt" 2>&1 || { tail -20 "$dir/rt"; exit 2; }
+    c/make_library.sh > "$dir/rt" 2>&1 || { tail -20 "$dir/rt"; exit 2; }
     grep "^logic=" "$dir/rt" | tail -1
 fi
 

@@ -1,5 +1,5 @@
 /* Plays a recording from standard input into a cell with keep 2, and prints the line of each record: what cellplay does, in C
- * over the library. docs/src/c_library.sh builds it.
+ * over the library. c/c_library.sh builds it.
  */
 #include <stdio.h>
 

@@ -2,7 +2,7 @@
  * the line of each record, and after every Nth record and at the end the whole state, asked
  * from the library question by question.
  *
- *   gcc -O2 states.c libbase_unit.a -o states
+ *   gcc -O2 states.c libdalgweniz.a -o states
  *   ./states N [KEEP] < recording      N = 0: the state at the end only; KEEP is 2 if not given
  *
  * A second cell, the twin, is played beside the first by the library's single calls. It has

@@ -1,5 +1,5 @@
 /* Tests the C library from C: the worked run call by call, every function's refusals, and random records fed to one cell while
- * the same calls are made directly on another. Prints "ok", or what differs. docs/src/c_library.sh builds and runs it.
+ * the same calls are made directly on another. Prints "ok", or what differs. c/c_library.sh builds and runs it.
  */
 #include <stdio.h>
 #include <stdlib.h>

@@ -1,13 +1,13 @@
 #!/usr/bin/env python3
 """Where the gate's time goes: reads what `rt ci` prints, and prints a table, a row a crate.
 
-  rt ci 2>&1 | tee gate.log | docs/src/gate_times.py
+  rt ci 2>&1 | tee gate.log | tools/gate_times.py
 
 Today's `rt ci` prints no times. So the table says after how many seconds each line came: that a crate was proved,
 that its tests were, and that its must-fail edits were begun. How long each of them took cannot be had: crates are
 worked on side by side, and no line says when a proof begins.
 
-  docs/src/gate_times.py gate.log
+  tools/gate_times.py gate.log
 
 Of a log it only says what was done: "yes" where there was such a line.
 """

@@ -1,6 +1,6 @@
 /* Dalgweniz for C: one radio cell of 64 places in the caller's memory, with keep 0 to 4 and the chooser "least served".
  *
- * Link with libbase_unit.a (docs/src/make_library.sh writes it to crates/base_unit/out). docs/C-LIBRARY.md tells the rest.
+ * Link with libdalgweniz.a (c/make_library.sh writes it to c/out). docs/C-LIBRARY.md tells the rest.
  *
  * Every function answers on every number it is given. A function that can refuse answers 0 for done, and otherwise the number
  * of the refusal; a refusal leaves the cell, every out-struct and every buffer as they were.
@@ -55,7 +55,7 @@ enum {
 #define DALGWENIZ_RECORD 16 /* bytes of a record */
 #define DALGWENIZ_LINE 64   /* bytes that a line buffer must have */
 
-/* The cell. What stands in it is the library's affair; the size is checked by docs/src/c_library.sh. */
+/* The cell. What stands in it is the library's affair; the size is checked by c/c_library.sh. */
 #define DALGWENIZ_CELL_BYTES 21520
 typedef struct {
     uint64_t inner[DALGWENIZ_CELL_BYTES / 8];

@@ -1,9 +1,9 @@
 #!/usr/bin/env python3
 """Plants bugs in the code, one at a time, and says what refuses each.
 
-    python3 docs/src/plant.py                    every bug of docs/src/bugs, two workers
-    python3 docs/src/plant.py -w 1 session       the bugs of a crate, one worker
-    python3 docs/src/plant.py -l LABEL --fresh   one bug, whatever an earlier run said
+    python3 tools/plant.py                    every bug of tools/bugs, two workers
+    python3 tools/plant.py -w 1 session       the bugs of a crate, one worker
+    python3 tools/plant.py -l LABEL --fresh   one bug, whatever an earlier run said
 
 A bug takes 10 to 60 seconds, and minutes where it survives its own crate. Each worker has a copy of the repository
 under --work while it runs; its checks begin with what earlier checks on this machine kept. A verdict is taken over
@@ -24,7 +24,7 @@ from dataclasses import dataclass, field
 from pathlib import Path
 from queue import SimpleQueue
 
-ROOT = Path(__file__).resolve().parents[2]
+ROOT = Path(__file__).resolve().parents[1]
 VERDICTS = ["contract", "test", "not at all", "unfit"]
 # What a check says of a fact that it could not prove, or of a text that it could not read.
 TOLD = re.compile(r"note: \S+:\d+:\d+: |\S+:\d+:\d+: error")
@@ -50,9 +50,9 @@ class Bug:
 
 
 def read_bugs():
-    """Every bug of docs/src/bugs, in the order of its files and lines."""
+    """Every bug of tools/bugs, in the order of its files and lines."""
     bugs = []
-    for path in sorted((ROOT / "docs/src/bugs").glob("*.txt")):
+    for path in sorted((ROOT / "tools/bugs").glob("*.txt")):
         for n, line in enumerate(path.read_text().split("\n"), 1):
             if line.startswith("bug "):
                 label, kind = line[4:].split(": ")
