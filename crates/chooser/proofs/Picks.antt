@@ -15,22 +15,22 @@ use Rattle.chooser.proofs.Made.{made_at}
 use Rattle.chooser.proofs.Sound.{nobody_past}
 
 -- an offered place is one of the 64
-pub offered_inside : (es : List (Option Entry)) → sound es ≡ true → (place : ℕ) → offered_at es place ≡ true → place < 64
+pub offered_inside : (es : List Entry) → sound es ≡ true → (place : ℕ) → offered_at es place ≡ true → place < 64
 offered_inside es s place t =
     ⊎_elim (λ (lt : place < 64). lt) (λ (ge : 64 ≤ place). absurd (both_ways _ (nobody_past es s place ge) t)) (cases_lt place 64)
 
 -- and so is a picked one
-pub picked_inside : (es : List (Option Entry)) → sound es ≡ true → (r : Option ℕ) → PicksOffered es r → (place : ℕ) → Some place ≡ r → place < 64
+pub picked_inside : (es : List Entry) → sound es ≡ true → (r : Option ℕ) → PicksOffered es r → (place : ℕ) → Some place ≡ r → place < 64
 picked_inside es s r h place e = offered_inside es s place (subst (PicksOffered es) (sym e) h)
 
 -- the least of a row that a closure filled with the key of each place is the pick
-pub row_pick : {K F : Type 0} (before : K → K → Bool) (es : List (Option Entry)) (key : ℕ → K) (g : Mut F (ℕ × Unit {0}) (Option K)) (f : F)
+pub row_pick : {K F : Type 0} (before : K → K → Bool) (es : List Entry) (key : ℕ → K) (g : Mut F (ℕ × Unit {0}) (Option K)) (f : F)
     → ((k : ℕ) → k < 64 → (x : Option K) (q : F) → Called g f (k, tt) x q → (q ≡ f) × (x ≡ key_at (offered_at es) key k))
     → (row : List (Option K)) → IsFromFnResult g f row 64 → (r : Option ℕ) → r ≡ least_of before row → r ≡ first_by before key es
 row_pick before es key g f gives row made r is =
     is ∙ ap (least_of before) (row_is before 64 (offered_at es) key row made.long (λ k h. made_at g f row _ 64 gives made k None h))
 
-module _ {K : Type 0} {before : K → K → Bool} (order : IsStrictWeakOrder before) (es : List (Option Entry)) (s : sound es ≡ true) (key : ℕ → K) where
+module _ {K : Type 0} {before : K → K → Bool} (order : IsStrictWeakOrder before) (es : List Entry) (s : sound es ≡ true) (key : ℕ → K) where
   picks_first_from : (r : Option ℕ) → First before 64 (offered_at es) key r → PicksFirst before key es r
   picks_first_from None h = λ place. ⊎_elim (λ (lt : place < 64). h place lt) (λ (ge : 64 ≤ place). nobody_past es s place ge) (cases_lt place 64)
   picks_first_from (Some place) h = record {

@@ -1,5 +1,5 @@
--- A place is one of 64, and goes by its number.
-use Rattle.std.specs.Prelude.{ℕ, cond, Some, None, Option, nat_lt}
+-- A place is one of those that the cell has, and goes by its number.
+use Rattle.std.specs.Prelude.{ℕ, if◌then◌else◌, Some, None, Option, nat_lt}
 use Rattle.std.specs.Option.{option_map}
 use Rattle.chooser.specs.Limits.{places}
 use Rattle.chooser.specs.declared.place.Place.{Place}
@@ -10,4 +10,4 @@ numbers p = option_map (λ q. q.number) p
 
 -- a number as that of a place, if there is such a place
 abbrev pub place_numbered : ℕ → Option ℕ
-place_numbered n = cond (nat_lt n places) (Some n) None
+place_numbered n = if nat_lt n places then Some n else None

@@ -1,57 +1,59 @@
-// What a chooser is offered: at each of the 64 places an entry, or none.
+// What a chooser is offered: an entry for each place.
 ghost use Rattle.std.specs.Prelude.{◌≡◌, true, nat_le, unsigned_abs};
-ghost use Rattle.chooser.specs.Offers.{sound, nobody, entry_at, offered_at, with_offered, lag_bound};
+ghost use Rattle.chooser.specs.Offers.{sound, lag_bound};
 
 use super::entry::Entry;
-use super::{LONGEST, MOST_TURNS};
+use super::{LONGEST, MOST_TURNS, PLACES};
 use tariff::Rate;
 
 // How far a lag may be from 0.
 const LAG_BOUND: i64 = LONGEST as i64 * MOST_TURNS as i64;
 
-// Whoever has what the 64 places offer may make an offer of it, on showing that it is sound.
-#[derive(Clone, Copy)]
+/// What a chooser is offered: an entry for each place. An offered one has a booked rate, its price,
+/// and a lag of at most 3,072,000,000,000 bytes either way.
+///
+/// Whoever has the entries may make an offer of them, on showing that they are sound.
+#[derive(Clone, Copy, PartialEq, Eq, Debug)]
 pub struct Offer {
-    pub entries: [Option<Entry>; 64],
+    /// One for each place, from 0 on.
+    pub entries: [Entry; PLACES],
     ghost ok: { sound entries ≡ true },
 }
 
 impl Offer {
-    // The offer of nobody.
+    ghost use Rattle.chooser.specs.Offers.{nobody, entry_at, offered_at, with_offered};
+
+    /// The offer of nobody.
     #[tactic(auto, using(crate::proofs::Sound::sound_nobody))]
     pub fn none() -> Offer
         ensures { result.entries ≡ nobody }
     {
         Offer {
-            entries: [None; 64],
+            entries: [Entry::unoffered(); PLACES],
         }
     }
 
-    // What is offered at a place, if there is such a place.
-    pub fn at(&self, place: usize) -> Option<Option<Entry>>
+    /// The entry of a place, if there is such a place.
+    pub fn at(&self, place: usize) -> Option<Entry>
         ensures { result ≡ entry_at self.now.entries place }
     {
         self.entries.get(place).copied()
     }
 
-    // Whether a place is offered.
+    /// Whether a place is offered; of a number that is no place's it is not.
     pub fn offers(&self, place: usize) -> bool
         ensures { result ≡ offered_at self.now.entries place }
     {
-        matches!(self.at(place), Some(Some(_)))
+        self.at(place).is_some_and(|entry| entry.offered)
     }
 
-    // Offers a place. A place above 63 and a lag past the bound change nothing.
+    /// Offers a place. A number that is no place's and a lag past the bound change nothing.
     #[tactic(auto, using(crate::proofs::Sound::offered_sound, crate::proofs::Sound::sound_set))]
     pub fn put(&mut self, place: usize, lag: i64, rate: Rate)
         ensures { self.new.entries ≡ with_offered self.old.entries place lag rate.units rate.price }
     {
-        if place < 64 && within(lag) {
-            self.entries[place] = Some(Entry {
-                lag,
-                rate: rate.units(),
-                price: rate.price(),
-            });
+        if place < PLACES && within(lag) {
+            self.entries[place] = Entry::offered(lag, rate);
         }
     }
 }

@@ -1,6 +1,6 @@
 // What the choosers pick, and what tellings do to their counts.
 use super::{Holder, without};
-use chooser::{Chooser, Entry, Line, Offer};
+use chooser::{Chooser, Entry, ListKind, Offer, PLACES};
 use keys::{Count, Debt, VirtualTime, least};
 use largest_debt::LargestDebt;
 use least_served::LeastServed;
@@ -20,23 +20,26 @@ fn offering(places: &[(usize, i64, u32)]) -> Result<Offer, Fail> {
 }
 
 fn full() -> Result<Offer, Fail> {
-    let places: [_; 64] = array::from_fn(|place| (place, 1, 1));
+    let places: [_; PLACES] = array::from_fn(|place| (place, 1, 1));
     offering(&places)
 }
 
 // What every chooser picks that has been told nothing.
 fn picks_the_lowest<C: Chooser + Drop>(rt: &impl Abort, chooser: C) -> Result<(), Fail> {
     let mut holder = Holder::new(chooser);
-    assert_eq!(rt; holder.peek(Line::Credit, &Offer::none()), None);
-    assert_eq!(rt; holder.peek(Line::Extra, &Offer::none()), None);
-    assert_eq!(rt; holder.serve(Line::Extra, &Offer::none(), 100), None);
+    assert_eq!(rt; holder.peek(ListKind::Credit, &Offer::none()), None);
+    assert_eq!(rt; holder.peek(ListKind::Extra, &Offer::none()), None);
+    assert_eq!(rt; holder.serve(ListKind::Extra, &Offer::none(), 100), None);
     let all = full()?;
-    assert_eq!(rt; holder.peek(Line::Credit, &all), Some(0));
-    assert_eq!(rt; holder.peek(Line::Extra, &without(&all, 0)), Some(1));
+    assert_eq!(rt; holder.peek(ListKind::Credit, &all), Some(0));
+    assert_eq!(rt; holder.peek(ListKind::Extra, &without(&all, 0)), Some(1));
     let last = offering(&[(63, 5, 7)])?;
-    assert_eq!(rt; holder.peek(Line::Credit, &last), Some(63));
-    assert_eq!(rt; holder.peek(Line::Credit, &without(&last, 63)), None);
-    assert_eq!(rt; holder.peek(Line::Credit, &without(&last, 64)), Some(63));
+    assert_eq!(rt; holder.peek(ListKind::Credit, &last), Some(63));
+    assert_eq!(rt; holder.peek(ListKind::Credit, &without(&last, 63)), None);
+    assert_eq!(rt;
+        holder.peek(ListKind::Credit, &without(&last, 64)),
+        Some(63)
+    );
     Ok(())
 }
 
@@ -75,19 +78,19 @@ fn offers_take_what_is_sound(rt: HostRuntime) -> Result<(), Fail> {
     offer.put(64, 1, Rate::try_from(1)?);
     offer.put(3, 3_072_000_000_001, Rate::try_from(1)?);
     offer.put(3, -3_072_000_000_001, Rate::try_from(1)?);
-    // the number itself is asked for
-    for place in 0..64 {
+    for place in 0..PLACES {
         assert!(rt; !offer.offers(place));
     }
     offer.put(3, -3_072_000_000_000, Rate::try_from(7)?);
     assert!(rt; offer.offers(3) && !offer.offers(64) && !offer.offers(67));
     let entry = Entry {
+        offered: true,
         lag: -3_072_000_000_000,
         rate: 7,
         price: 102_960,
     };
-    assert_eq!(rt; offer.at(3), Some(Some(entry)));
-    assert_eq!(rt; offer.at(4), Some(None));
+    assert_eq!(rt; offer.at(3), Some(entry));
+    assert_eq!(rt; offer.at(4), Some(Entry::unoffered()));
     assert_eq!(rt; offer.at(64), None);
     Ok(())
 }
@@ -95,16 +98,16 @@ fn offers_take_what_is_sound(rt: HostRuntime) -> Result<(), Fail> {
 #[test]
 fn equal_debts_tie(rt: HostRuntime) -> Result<(), Fail> {
     assert_eq!(rt;
-        LargestDebt.ask(Line::Credit, &offering(&[(3, 10, 20), (5, 9, 18)])?),
+        LargestDebt.ask(ListKind::Credit, &offering(&[(3, 10, 20), (5, 9, 18)])?),
         Some(3)
     );
     assert_eq!(rt;
-        LargestDebt.ask(Line::Credit, &offering(&[(3, 9, 18), (5, 10, 20)])?),
+        LargestDebt.ask(ListKind::Credit, &offering(&[(3, 9, 18), (5, 10, 20)])?),
         Some(3)
     );
     // a byte more is a larger debt
     assert_eq!(rt;
-        LargestDebt.ask(Line::Credit, &offering(&[(3, 9, 18), (5, 11, 20)])?),
+        LargestDebt.ask(ListKind::Credit, &offering(&[(3, 9, 18), (5, 11, 20)])?),
         Some(5)
     );
     Ok(())
@@ -113,19 +116,19 @@ fn equal_debts_tie(rt: HostRuntime) -> Result<(), Fail> {
 #[test]
 fn a_lag_weighs_more_at_a_lower_rate(rt: HostRuntime) -> Result<(), Fail> {
     assert_eq!(rt;
-        LargestDebt.ask(Line::Credit, &offering(&[(2, 10, 20), (40, 10, 18)])?),
+        LargestDebt.ask(ListKind::Credit, &offering(&[(2, 10, 20), (40, 10, 18)])?),
         Some(40)
     );
     assert_eq!(rt;
-        LargestDebt.ask(Line::Extra, &offering(&[(2, -10, 20), (40, -10, 18)])?),
+        LargestDebt.ask(ListKind::Extra, &offering(&[(2, -10, 20), (40, -10, 18)])?),
         Some(2)
     );
     assert_eq!(rt;
-        LargestDebt.ask(Line::Extra, &offering(&[(2, -10, 20), (40, 0, 18)])?),
+        LargestDebt.ask(ListKind::Extra, &offering(&[(2, -10, 20), (40, 0, 18)])?),
         Some(40)
     );
     let far = offering(&[(0, -3_072_000_000_000, 1), (63, 3_072_000_000_000, 1)])?;
-    assert_eq!(rt; LargestDebt.ask(Line::Credit, &far), Some(63));
+    assert_eq!(rt; LargestDebt.ask(ListKind::Credit, &far), Some(63));
     Ok(())
 }
 
@@ -133,10 +136,10 @@ fn a_lag_weighs_more_at_a_lower_rate(rt: HostRuntime) -> Result<(), Fail> {
 fn largest_debt_ignores_tellings(rt: HostRuntime) -> Result<(), Fail> {
     let offer = offering(&[(3, 10, 20), (5, 9, 18)])?;
     let mut debt = LargestDebt;
-    debt.served(Line::Credit, 3, 1_536, 36_036);
-    debt.joined(Line::Credit, 5, &offer);
+    debt.served(ListKind::Credit, 3, 1_536, 36_036);
+    debt.joined(ListKind::Credit, 5, &offer);
     debt.cleared(3);
-    assert_eq!(rt; debt.ask(Line::Credit, &offer), Some(3));
+    assert_eq!(rt; debt.ask(ListKind::Credit, &offer), Some(3));
     Ok(())
 }
 
@@ -144,19 +147,19 @@ fn largest_debt_ignores_tellings(rt: HostRuntime) -> Result<(), Fail> {
 fn servings_count_by_list(rt: HostRuntime) -> Result<(), Fail> {
     let offer = offering(&[(3, 10, 20), (5, 9, 18)])?;
     let mut least = LeastServed::new();
-    assert_eq!(rt; least.ask(Line::Credit, &offer), Some(3));
-    least.served(Line::Credit, 3, 100, 36_036);
-    assert_eq!(rt; least.count(Line::Credit, 3), Some(3_603_600));
-    assert_eq!(rt; least.count(Line::Extra, 3), Some(0));
-    assert_eq!(rt; least.ask(Line::Credit, &offer), Some(5));
-    assert_eq!(rt; least.ask(Line::Extra, &offer), Some(3));
+    assert_eq!(rt; least.ask(ListKind::Credit, &offer), Some(3));
+    least.served(ListKind::Credit, 3, 100, 36_036);
+    assert_eq!(rt; least.count(ListKind::Credit, 3), Some(3_603_600));
+    assert_eq!(rt; least.count(ListKind::Extra, 3), Some(0));
+    assert_eq!(rt; least.ask(ListKind::Credit, &offer), Some(5));
+    assert_eq!(rt; least.ask(ListKind::Extra, &offer), Some(3));
     // 90 bytes at 40,040 are as much service as 100 at 36,036
-    least.served(Line::Credit, 5, 90, 40_040);
-    assert_eq!(rt; least.count(Line::Credit, 5), Some(3_603_600));
-    assert_eq!(rt; least.ask(Line::Credit, &offer), Some(3));
-    least.served(Line::Credit, 3, 0, 36_036);
-    assert_eq!(rt; least.ask(Line::Credit, &offer), Some(3));
-    assert_eq!(rt; least.count(Line::Credit, 64), None);
+    least.served(ListKind::Credit, 5, 90, 40_040);
+    assert_eq!(rt; least.count(ListKind::Credit, 5), Some(3_603_600));
+    assert_eq!(rt; least.ask(ListKind::Credit, &offer), Some(3));
+    least.served(ListKind::Credit, 3, 0, 36_036);
+    assert_eq!(rt; least.ask(ListKind::Credit, &offer), Some(3));
+    assert_eq!(rt; least.count(ListKind::Credit, 64), None);
     Ok(())
 }
 
@@ -164,23 +167,22 @@ fn servings_count_by_list(rt: HostRuntime) -> Result<(), Fail> {
 fn tellings_out_of_range_do_nothing(rt: HostRuntime) -> Result<(), Fail> {
     let offer = offering(&[(3, 10, 20), (5, 9, 18)])?;
     let mut least = LeastServed::new();
-    least.served(Line::Credit, 3, 100, 36_036);
-    least.served(Line::Credit, 5, 100, 40_040);
-    least.served(Line::Credit, 64, 100, 36_036);
-    least.served(Line::Credit, 4, 1_537, 36_036);
-    least.served(Line::Credit, 4, 100, 17);
-    least.served(Line::Credit, 4, 100, 0);
-    least.joined(Line::Credit, 64, &offer);
+    least.served(ListKind::Credit, 3, 100, 36_036);
+    least.served(ListKind::Credit, 5, 100, 40_040);
+    least.served(ListKind::Credit, 64, 100, 36_036);
+    least.served(ListKind::Credit, 4, 1_537, 36_036);
+    least.served(ListKind::Credit, 4, 100, 17);
+    least.served(ListKind::Credit, 4, 100, 0);
+    least.joined(ListKind::Credit, 64, &offer);
     least.cleared(64);
-    // the number itself is asked for
-    for place in 0..64 {
-        assert_eq!(rt; least.count(Line::Extra, place), Some(0));
+    for place in 0..PLACES {
+        assert_eq!(rt; least.count(ListKind::Extra, place), Some(0));
     }
-    assert_eq!(rt; least.count(Line::Credit, 3), Some(3_603_600));
-    assert_eq!(rt; least.count(Line::Credit, 4), Some(0));
-    assert_eq!(rt; least.count(Line::Credit, 5), Some(4_004_000));
-    least.served(Line::Credit, 4, 1_536, 720_720);
-    assert_eq!(rt; least.count(Line::Credit, 4), Some(1_107_025_920));
+    assert_eq!(rt; least.count(ListKind::Credit, 3), Some(3_603_600));
+    assert_eq!(rt; least.count(ListKind::Credit, 4), Some(0));
+    assert_eq!(rt; least.count(ListKind::Credit, 5), Some(4_004_000));
+    least.served(ListKind::Credit, 4, 1_536, 720_720);
+    assert_eq!(rt; least.count(ListKind::Credit, 4), Some(1_107_025_920));
     Ok(())
 }
 
@@ -188,25 +190,25 @@ fn tellings_out_of_range_do_nothing(rt: HostRuntime) -> Result<(), Fail> {
 fn a_joiner_is_raised_to_the_smallest(rt: HostRuntime) -> Result<(), Fail> {
     let offer = offering(&[(3, 10, 20), (5, 9, 18)])?;
     let mut least = LeastServed::new();
-    least.served(Line::Credit, 3, 100, 2);
-    least.served(Line::Credit, 5, 100, 3);
-    least.served(Line::Credit, 7, 100, 4);
-    least.joined(Line::Credit, 9, &Offer::none());
-    assert_eq!(rt; least.count(Line::Credit, 9), Some(0));
-    least.joined(Line::Credit, 9, &offer);
-    assert_eq!(rt; least.count(Line::Credit, 9), Some(200));
-    assert_eq!(rt; least.count(Line::Extra, 9), Some(0));
+    least.served(ListKind::Credit, 3, 100, 2);
+    least.served(ListKind::Credit, 5, 100, 3);
+    least.served(ListKind::Credit, 7, 100, 4);
+    least.joined(ListKind::Credit, 9, &Offer::none());
+    assert_eq!(rt; least.count(ListKind::Credit, 9), Some(0));
+    least.joined(ListKind::Credit, 9, &offer);
+    assert_eq!(rt; least.count(ListKind::Credit, 9), Some(200));
+    assert_eq!(rt; least.count(ListKind::Extra, 9), Some(0));
     // a count that is larger already stays
-    least.joined(Line::Credit, 7, &offer);
-    assert_eq!(rt; least.count(Line::Credit, 7), Some(400));
+    least.joined(ListKind::Credit, 7, &offer);
+    assert_eq!(rt; least.count(ListKind::Credit, 7), Some(400));
     // an offer that holds the joiner itself takes its own count into the minimum
-    least.joined(Line::Credit, 5, &offer);
-    assert_eq!(rt; least.count(Line::Credit, 5), Some(300));
-    least.served(Line::Extra, 5, 10, 3);
+    least.joined(ListKind::Credit, 5, &offer);
+    assert_eq!(rt; least.count(ListKind::Credit, 5), Some(300));
+    least.served(ListKind::Extra, 5, 10, 3);
     least.cleared(5);
-    assert_eq!(rt; least.count(Line::Credit, 5), Some(0));
-    assert_eq!(rt; least.count(Line::Extra, 5), Some(0));
-    assert_eq!(rt; least.count(Line::Credit, 3), Some(200));
+    assert_eq!(rt; least.count(ListKind::Credit, 5), Some(0));
+    assert_eq!(rt; least.count(ListKind::Extra, 5), Some(0));
+    assert_eq!(rt; least.count(ListKind::Credit, 3), Some(200));
     Ok(())
 }
 
@@ -214,15 +216,15 @@ fn a_joiner_is_raised_to_the_smallest(rt: HostRuntime) -> Result<(), Fail> {
 fn a_holder_serves_in_turn(rt: HostRuntime) -> Result<(), Fail> {
     let offer = offering(&[(3, 10, 20), (5, 9, 18)])?;
     let mut holder = Holder::new(LeastServed::new());
-    assert_eq!(rt; holder.serve(Line::Credit, &offer, 100), Some(3));
-    assert_eq!(rt; holder.serve(Line::Credit, &offer, 100), Some(5));
-    assert_eq!(rt; holder.serve(Line::Credit, &offer, 100), Some(3));
-    assert_eq!(rt; holder.serve(Line::Extra, &offer, 100), Some(3));
-    assert_eq!(rt; holder.peek(Line::Credit, &offer), Some(5));
+    assert_eq!(rt; holder.serve(ListKind::Credit, &offer, 100), Some(3));
+    assert_eq!(rt; holder.serve(ListKind::Credit, &offer, 100), Some(5));
+    assert_eq!(rt; holder.serve(ListKind::Credit, &offer, 100), Some(3));
+    assert_eq!(rt; holder.serve(ListKind::Extra, &offer, 100), Some(3));
+    assert_eq!(rt; holder.peek(ListKind::Credit, &offer), Some(5));
     // all others start where the least served stands, and the lowest of them goes first
-    holder.join_all(Line::Credit, &offer);
-    assert_eq!(rt; holder.peek(Line::Credit, &full()?), Some(0));
+    holder.join_all(ListKind::Credit, &offer);
+    assert_eq!(rt; holder.peek(ListKind::Credit, &full()?), Some(0));
     holder.clear(7);
-    assert_eq!(rt; holder.peek(Line::Credit, &full()?), Some(7));
+    assert_eq!(rt; holder.peek(ListKind::Credit, &full()?), Some(7));
     Ok(())
 }

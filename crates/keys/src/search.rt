@@ -3,8 +3,11 @@ ghost use Rattle.std.specs.Prelude.{◌≡◌};
 ghost use Rattle.keys.specs.Least.{least_of, Least};
 ghost use Rattle.keys.specs.Order.{lt_by_cmp};
 
-// The index of the least key, the lower one on a tie. An entry without a key is no candidate.
-pub fn least<K: Ord + Copy>(keys: &[Option<K>]) -> Option<usize>
+use super::key::Key;
+
+/// The index of the least key, the lower one on a tie; `None` where no entry has a key.
+/// An entry without a key is no candidate.
+pub fn least<K: Key>(keys: &[Option<K>]) -> Option<usize>
     ensures found { result ≡ least_of (lt_by_cmp K.cmp) keys.now }
     ensures least { Least (lt_by_cmp K.cmp) keys.now result }
 {

@@ -1,3 +1,4 @@
 pub mod Largest
 pub mod Laws
+pub mod Meaning
 pub mod Ratios

@@ -1,3 +1,4 @@
 pub mod Served
-pub mod Tellings
+pub mod Meaning
+pub mod Stops
 pub mod Laws

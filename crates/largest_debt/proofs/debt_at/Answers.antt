@@ -1,9 +1,9 @@
-use Rattle.std.proofs.Common.{Some, sym, ap, ◌∙◌}
+use Rattle.std.proofs.Common.{sym}
 use Rattle.chooser.proofs.Sound.{booked_at}
 use Rattle.largest_debt.proofs.debt_at.Goals as goal
 
-pub debt_of-requires : goal.debt_of-requires
-debt_of-requires c =
+pub debt_of-debt-requires : goal.debt_of-debt-requires
+debt_of-debt-requires c =
     let o = c.args.offer.now in
-    let own = booked_at o.entries o.ok _ _ (sym c.at.ensures ∙ c.in_ok-at.was ∙ ap Some c.in_ok-branch.was) in
+    let own = booked_at o.entries o.ok _ c.in_ok-entry.entry (sym c.in_ok-entry.ensures) in
     record { near = own.near; price = own.price }

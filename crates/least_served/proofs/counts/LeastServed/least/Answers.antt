@@ -10,9 +10,9 @@ use Rattle.least_served.proofs.counts.LeastServed.least.Goals as goal
 pub returns : goal.returns
 returns c =
     let s = c.args.self.now in
-    let line = c.args.line in
+    let list = c.args.list in
     let o = c.args.offer.now in
     let made = c.from_fn-counts.ensures.items in
     let found = c.least.ensures.found ∙ ap (λ before. least_of before c.from_fn-counts.result) count_first in
-    let value = row_pick count_before o.entries (count_key s line) _ _ (λ k l x q call. search rules) _ made _ found in
-    record { value = value; least = subst (PicksLeastServed s line o.entries) (sym value) (picks_least_served s line o.entries o.ok) }
+    let value = row_pick count_before o.entries (count_key s list) _ _ (λ k l x q call. search rules) _ made _ found in
+    record { value = value; least = subst (PicksLeastServed s list o.entries) (sym value) (picks_least_served s list o.entries o.ok) }
