@@ -1,7 +1,11 @@
 -- The number of each refusal, by which crews, recordings and documents name it.
-use Rattle.std.specs.Prelude.{ℕ}
+use Rattle.std.specs.Prelude.{ℕ, Ok, Err, Result}
 use Rattle.answer.specs.declared.refusal.Refusal.{Refusal}
-use Rattle.answer.specs.declared.refusal.Refusal.TheVariants.{TruncatedRecord, UnknownLetter, UnusedByteNotZero, NoteNotPrintable, PlaceTooHigh, PlaceOpen, PlaceNotOpen, RateNotInTariff, LinkOverbooked, SessionActive, AheadOfMark, LengthOutOfRange, QueueFull, NoneActive, TurnsUsedUp, KeepTooHigh, BufferTooShort}
+use Rattle.answer.specs.declared.refusal.Refusal.TheVariants.{TruncatedRecord, UnknownLetter, UnusedByteNotZero}
+use Rattle.answer.specs.declared.refusal.Refusal.TheVariants.{NoteNotPrintable, PlaceTooHigh, PlaceOpen, PlaceNotOpen}
+use Rattle.answer.specs.declared.refusal.Refusal.TheVariants.{RateNotInTariff, LinkOverbooked, SessionActive}
+use Rattle.answer.specs.declared.refusal.Refusal.TheVariants.{AheadOfMark, LengthOutOfRange, QueueFull, NoneActive}
+use Rattle.answer.specs.declared.refusal.Refusal.TheVariants.{TurnsUsedUp, KeepTooHigh, BufferTooShort}
 
 abbrev pub number_of : Refusal → ℕ
 number_of TruncatedRecord = 1
@@ -21,3 +25,8 @@ number_of NoneActive = 14
 number_of TurnsUsedUp = 15
 number_of KeepTooHigh = 16
 number_of BufferTooShort = 17
+
+-- of what a call came to: the refusal's number, and 0 of an answer
+abbrev pub refusal_number : {X : Type 0} → Result X Refusal → ℕ
+refusal_number (Ok x) = 0
+refusal_number (Err why) = number_of why

@@ -8,7 +8,7 @@ use Rattle.record.specs.declared.letter.Letter.{Letter}
 use Rattle.record.specs.declared.letter.Letter.TheVariants.{O, C, A, G, B, T}
 use Rattle.record.specs.Letters.{letter_of}
 use Rattle.record.specs.Layout.{Contents, from_to, saying, unused, used, decoded, place_in, length_in, value_in, note_in}
-use Rattle.record.specs.Reading.{first_outside, first_not_zero, first_unprintable, unless, parsed, parsed_as}
+use Rattle.record.specs.Reading.{first_outside, first_not_zero, first_unprintable, fault_or, parsed, parsed_as}
 use Rattle.record.proofs.Numbers.{length_is, value_is}
 
 -- where no byte lies outside a range, each is in it
@@ -59,8 +59,8 @@ pub accepted : (number : ℕ) (bs : List ℕ) (l : Letter) → Some l ≡ letter
     → None ≡ first_unprintable (note_in bs) → (c : Contents) → c ≡ decoded l bs → Ok c ≡ parsed number bs
 accepted number bs l some zeros clean c e =
     let ok : Contents → Result Contents Fault = λ x. Ok x in
-    let noted : Option ℕ → Result Contents Fault = λ o. unless o NoteNotPrintable number (Ok (decoded l bs)) in
+    let noted : Option ℕ → Result Contents Fault = λ o. fault_or o NoteNotPrintable number (Ok (decoded l bs)) in
     ap ok e
     ∙ ap noted clean
-    ∙ ap (λ (o : Option ℕ). unless o UnusedByteNotZero number (noted (first_unprintable (note_in bs)))) zeros
+    ∙ ap (λ (o : Option ℕ). fault_or o UnusedByteNotZero number (noted (first_unprintable (note_in bs)))) zeros
     ∙ ap (parsed_as number bs) some

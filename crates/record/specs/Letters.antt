@@ -1,5 +1,5 @@
 -- The six letters that a record can begin with, each by the byte that it is written as.
-use Rattle.std.specs.Prelude.{ℕ, cond, List, [], ◌∷◌, Some, None, Option, ◌==◌}
+use Rattle.std.specs.Prelude.{ℕ, if◌then◌else◌, List, [], ◌∷◌, Some, None, Option, ◌==◌}
 use Rattle.answer.specs.Names.{code}
 use Rattle.record.specs.declared.letter.Letter.{Letter}
 use Rattle.record.specs.declared.letter.Letter.TheVariants.{O, C, A, G, B, T}
@@ -14,7 +14,7 @@ byte_of T = code "T"
 
 abbrev pub among : List Letter → ℕ → Option Letter
 among [] byte = None
-among (l ∷ ls) byte = cond (byte == byte_of l) (Some l) (among ls byte)
+among (l ∷ ls) byte = if byte == byte_of l then Some l else among ls byte
 
 -- the letter that a byte is, if it is one of the six
 abbrev pub letter_of : ℕ → Option Letter

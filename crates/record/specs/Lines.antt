@@ -1,6 +1,6 @@
 -- The line that tells of a record: its number, its letter, the result and the note, with single spaces, and a newline last.
 -- Where no event was read, `?` stands for the letter, and there is no note.
-use Rattle.std.specs.Prelude.{ℕ, cond, List, [], ◌∷◌, ◌++◌, length, take, Some, None, Ok, Err, codes, decimal, Option, Result, nat_lt}
+use Rattle.std.specs.Prelude.{ℕ, if◌then◌else◌, List, [], ◌∷◌, ◌++◌, length, take, Some, None, Ok, Err, codes, decimal, Option, Result, nat_lt}
 use Rattle.answer.specs.Names.{code, kind_byte}
 use Rattle.answer.specs.Numbers.{number_of}
 use Rattle.answer.specs.declared.refusal.Refusal.{Refusal}
@@ -9,6 +9,7 @@ use Rattle.answer.specs.declared.turn.Answer.{Answer}
 use Rattle.answer.specs.declared.turn.Answer.TheVariants.{Done, Turn as Given}
 use Rattle.answer.specs.declared.turn.Sent.{Sent}
 use Rattle.answer.specs.declared.turn.Turn.{Turn}
+use Rattle.record.specs.declared.layout.TheConstants.{LINE, NOTE_LENGTH}
 use Rattle.record.specs.Letters.{byte_of}
 use Rattle.record.specs.Layout.{Contents}
 
@@ -40,11 +41,11 @@ head_text number letter result = decimal number ++ (codes " " ++ (letter ∷ (co
 
 -- of a note that is longer than eight bytes, the first eight
 abbrev pub line_text : ℕ → Contents → Result Answer Refusal → List ℕ
-line_text number c result = head_text number (byte_of c.letter) result ++ (codes " " ++ (take 8 c.note ++ newline))
+line_text number c result = head_text number (byte_of c.letter) result ++ (codes " " ++ (take NOTE_LENGTH c.note ++ newline))
 
 abbrev pub fault_text : ℕ → Refusal → List ℕ
 fault_text number why = head_text number (code "?") (Err why) ++ newline
 
 -- what a call for a line answers: its length, if there is room for the longest
 abbrev pub lining : List ℕ → List ℕ → Result ℕ Refusal
-lining text out = cond (nat_lt (length out) 64) (Err BufferTooShort) (Ok (length text))
+lining text out = if nat_lt (length out) LINE then Err BufferTooShort else Ok (length text)

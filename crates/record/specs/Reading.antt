@@ -1,18 +1,19 @@
 -- Reading the next record of an input. The faults are looked for in the order of their numbers, and each names the first
 -- byte at which it shows; a record that the input ends in names how many of its bytes are there.
-use Rattle.std.specs.Prelude.{ℕ, cond, ◌||◌, List, [], ◌∷◌, length, take, drop, Some, None, Ok, Err, Option, Result, nat_lt, slice_index}
+use Rattle.std.specs.Prelude.{ℕ, if◌then◌else◌, ◌||◌, List, [], ◌∷◌, length, take, drop, Some, None, Ok, Err, Option, Result, nat_lt, slice_index}
 use Rattle.std.specs.Borrow.{Bor}
 use Rattle.std.specs.List.{between, position_from}
 use Rattle.std.specs.declared.ops.Range.{Range}
+use Rattle.answer.specs.Names.{code}
 use Rattle.answer.specs.declared.fault.Fault.{Fault}
 use Rattle.answer.specs.declared.fault.Layer.TheVariants.{Record}
 use Rattle.answer.specs.declared.refusal.Refusal.{Refusal}
 use Rattle.answer.specs.declared.refusal.Refusal.TheVariants.{TruncatedRecord, UnknownLetter, UnusedByteNotZero, NoteNotPrintable}
 use Rattle.record.specs.declared.event.Event.{Event}
 use Rattle.record.specs.declared.letter.Letter.{Letter}
-use Rattle.answer.specs.Names.{code}
 use Rattle.record.specs.Letters.{letter_of}
-use Rattle.record.specs.Layout.{Contents, contents, decoded, unused, note_at, note_in, record_end}
+use Rattle.record.specs.Layout.{Contents, contents, decoded, unused, note_in}
+use Rattle.record.specs.declared.layout.TheConstants.{NOTE, RECORD}
 
 abbrev pub fault : Refusal → ℕ → ℕ → Fault
 fault why number byte = record { refusal = why; layer = Record; «record» = number; byte = byte }
@@ -27,18 +28,18 @@ first_not_zero part bytes = first_outside 0 0 part.start (between part.start par
 
 -- the first byte of a note that is not printable
 abbrev pub first_unprintable : List ℕ → Option ℕ
-first_unprintable note = first_outside (code " ") (code "~") note_at note
+first_unprintable note = first_outside (code " ") (code "~") NOTE note
 
 -- a fault where a byte was found, and otherwise what follows
-abbrev pub unless : {X : Type 0} → Option ℕ → Refusal → ℕ → Result X Fault → Result X Fault
-unless None why number r = r
-unless (Some byte) why number r = Err (fault why number byte)
+abbrev pub fault_or : {X : Type 0} → Option ℕ → Refusal → ℕ → Result X Fault → Result X Fault
+fault_or None why number r = r
+fault_or (Some byte) why number r = Err (fault why number byte)
 
 abbrev pub parsed_as : ℕ → List ℕ → Option Letter → Result Contents Fault
 parsed_as number bytes None = Err (fault UnknownLetter number 0)
 parsed_as number bytes (Some l) =
-    unless (first_not_zero (unused l) bytes) UnusedByteNotZero number
-    (unless (first_unprintable (note_in bytes)) NoteNotPrintable number (Ok (decoded l bytes)))
+    fault_or (first_not_zero (unused l) bytes) UnusedByteNotZero number
+    (fault_or (first_unprintable (note_in bytes)) NoteNotPrintable number (Ok (decoded l bytes)))
 
 -- what sixteen bytes say
 abbrev pub parsed : ℕ → List ℕ → Result Contents Fault
@@ -52,15 +53,15 @@ with_rest rest (Err f) = Err f
 abbrev pub reading : ℕ → List ℕ → Result (Option (Contents × List ℕ)) Fault
 reading number [] = Ok None
 reading number (b ∷ bs) =
-    cond (nat_lt (length (b ∷ bs)) record_end) (Err (fault TruncatedRecord number (length (b ∷ bs))))
-    (with_rest (drop record_end (b ∷ bs)) (parsed number (take record_end (b ∷ bs))))
+    if nat_lt (length (b ∷ bs)) RECORD then Err (fault TruncatedRecord number (length (b ∷ bs)))
+    else with_rest (drop RECORD (b ∷ bs)) (parsed number (take RECORD (b ∷ bs)))
 
 -- what the code answers, in these terms
-abbrev pub told_event : Result Event Fault → Result Contents Fault
-told_event (Ok e) = Ok (contents e)
-told_event (Err f) = Err f
+abbrev pub event_as : Result Event Fault → Result Contents Fault
+event_as (Ok e) = Ok (contents e)
+event_as (Err f) = Err f
 
-abbrev pub told : Result (Option (Event × Bor (List ℕ))) Fault → Result (Option (Contents × List ℕ)) Fault
-told (Ok None) = Ok None
-told (Ok (Some x)) = Ok (Some (contents x.0, x.1.now))
-told (Err f) = Err f
+abbrev pub reading_as : Result (Option (Event × Bor (List ℕ))) Fault → Result (Option (Contents × List ℕ)) Fault
+reading_as (Ok None) = Ok None
+reading_as (Ok (Some x)) = Ok (Some (contents x.0, x.1.now))
+reading_as (Err f) = Err f

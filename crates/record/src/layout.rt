@@ -1,4 +1,5 @@
-// Where the parts of a record begin: the letter, the place, the length, the value and the note.
+// How many bytes a record and its line have, and where the parts of a record begin.
+
 pub(crate) const PLACE: usize = 1;
 
 pub(crate) const LENGTH: usize = 2;
@@ -6,5 +7,12 @@ pub(crate) const LENGTH: usize = 2;
 pub(crate) const VALUE: usize = 4;
 
 pub(crate) const NOTE: usize = 8;
-// Where it ends.
-pub(crate) const RECORD: usize = 16;
+
+/// How many bytes the note of a record has.
+pub const NOTE_LENGTH: usize = 8;
+
+/// How many bytes a record has.
+pub const RECORD: usize = NOTE + NOTE_LENGTH;
+
+/// The room, in bytes, that the longest line has.
+pub const LINE: usize = 64;

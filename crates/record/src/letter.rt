@@ -2,14 +2,14 @@
 ghost use Rattle.std.specs.Prelude.{◌≡◌};
 ghost use Rattle.std.specs.Option.{ok_or};
 ghost use Rattle.answer.specs.declared.refusal.Refusal.TheVariants.{UnknownLetter};
-ghost use Rattle.record.specs.Letters.{byte_of, letter_of};
 ghost use Rattle.record.specs.Layout.{unused};
+ghost use Rattle.record.specs.Letters.{byte_of, letter_of};
 
 use crate::layout::{LENGTH, NOTE, PLACE, VALUE};
 use answer::Refusal;
 use std::ops::Range;
 
-// Opening, closing, arrival, good and bad channel, turn.
+/// Opening, closing, arrival, good and bad channel, turn.
 #[derive(Clone, Copy, PartialEq, Eq, Debug)]
 pub enum Letter {
     O,
@@ -20,7 +20,7 @@ pub enum Letter {
     T,
 }
 
-// The letter that a character is, if it is one of the six.
+/// The letter that a character is, or `UnknownLetter` if it is none of the six.
 impl TryFrom<char> for Letter {
     type Error = Refusal;
 
@@ -39,7 +39,7 @@ impl TryFrom<char> for Letter {
     }
 }
 
-// The byte that it is written as.
+/// The byte that it is written as.
 impl From<Letter> for u8 {
     ghost from_gives = { λ letter byte. byte ≡ byte_of letter };
 

@@ -6,15 +6,15 @@ mod event;
 mod layout;
 mod letter;
 mod lines;
-mod parts;
 mod reader;
 mod text;
 mod writer;
 
 pub use call::Call;
 pub use event::Event;
+pub use layout::{LINE, NOTE_LENGTH, RECORD};
 pub use letter::Letter;
 pub use lines::{fault_line, line};
 pub use reader::read;
-pub use text::LINE;
+pub use text::LineText;
 pub use writer::write;

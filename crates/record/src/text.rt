@@ -1,59 +1,64 @@
-// A line as it is made. Tried with `Display` and `write!`: no contract of std says that a `fmt` answers Ok, as a line has to.
-ghost use Rattle.std.specs.Prelude.{◌≡◌, ℕ, ◌<◌, ◌≤◌, List, [], ◌++◌, IfOk, Some, codes, length, take};
+// A line as it is made. No `Display` with `write!`: a contract of std says no more of it than what an Ok has written, and a line is
+// always made.
+ghost use Rattle.std.specs.Prelude.{◌≡◌, ℕ, ◌+◌, ◌<◌, ◌≤◌, List, [], ◌++◌, IfOk, Some, codes, length, take};
 ghost use Rattle.record.specs.Layout.{contents};
 ghost use Rattle.record.specs.Lines.{fault_text, head_text, line_text, lining, newline, refusal_text, result_text, sent_text, turn_text};
 ghost use Rattle.record.specs.Putting.{Appends};
 ghost use Rattle.record.specs.Writing.{after as buffer_after};
 
 use crate::event::Event;
-use crate::parts::Parts;
+use crate::layout::{LINE, NOTE_LENGTH};
 use answer::{Answer, Refusal, Sent, Turn};
 use arrayvec::ArrayVec;
 use itoa::{Buffer, Integer};
 use std::marker::Model;
 
-// The room that the longest line has.
-pub const LINE: usize = 64;
-
-// The text so far, in memory of its own: nothing here is on the heap. What has no room is left out, and no line is so long.
+/// A line of text, the newline at its end included, in memory of its own: nothing of it is on the heap.
+// What has no room is left out, and no line is so long.
 #[derive(Drop)]
-pub(crate) struct Text(ArrayVec<u8, LINE>);
+pub struct LineText(ArrayVec<u8, LINE>);
 
-impl Model for Text {
+impl Model for LineText {
     ghost Value = { List ℕ };
 
     ghost view = { λ t. t.0.items };
 }
 
-impl Text {
-    // The line of an event and its result.
-    pub(crate) fn of_event(number: u64, event: Event, res: Result<Answer, Refusal>) -> Text
+impl LineText {
+    /// The line of an event, by the number of its record, and of what the cell answered.
+    pub fn of_event(number: u64, event: Event, res: Result<Answer, Refusal>) -> LineText
         ensures text { result ≡ line_text number (contents event.entry) res }
-        ensures short { length (line_text number (contents event.entry) res) < 64 }
+        ensures short { length (line_text number (contents event.entry) res) < LINE }
     {
-        let parts = Parts::from(event);
-        let mut text = Text::new();
-        text.push_head(number, u8::from(parts.letter), res);
-        text.push_note(parts.note);
+        let mut text = LineText::new();
+        text.push_head(number, u8::from(event.letter()), res);
+        text.push_note(event.note());
         text
     }
 
-    // The line of a record in which no event was read.
-    pub(crate) fn of_fault(number: u64, why: Refusal) -> Text
+    /// The line of a record, by its number, in which no event was read.
+    pub fn of_fault(number: u64, why: Refusal) -> LineText
         ensures text { result ≡ fault_text number why }
-        ensures short { length (fault_text number why) < 64 }
+        ensures short { length (fault_text number why) < LINE }
     {
-        let mut text = Text::new();
+        let mut text = LineText::new();
         text.push_head(number, b'?', Err(why));
         text.push(b"\n");
         text
+    }
+
+    /// The bytes of the line.
+    pub fn bytes(&self) -> &[u8]
+        ensures { result.now ≡ self.now }
+    {
+        &self.0
     }
 
     // Into the front of a buffer that has room for the longest line; the text's length.
     pub(crate) fn store(&self, out: &mut [u8]) -> Result<usize, Refusal>
         ensures answer { result ≡ lining self.now out.old }
         ensures after { out.new ≡ buffer_after result self.now out.old }
-        ensures short { length self.now < 64 → IfOk result (λ n. n < 64) }
+        ensures short { length self.now < LINE → IfOk result (λ n. n < LINE) }
     {
         if out.len() < LINE {
             return Err(Refusal::BufferTooShort);
@@ -62,10 +67,10 @@ impl Text {
         Ok(self.0.len())
     }
 
-    fn new() -> Text
+    fn new() -> LineText
         ensures { result ≡ [] }
     {
-        Text(ArrayVec::new())
+        LineText(ArrayVec::new())
     }
 
     fn push(&mut self, more: &[u8])
@@ -143,11 +148,11 @@ impl Text {
 
     // A space, the note's first eight bytes and a newline.
     fn push_note(&mut self, note: &[u8])
-        ensures text { Appends self.old (codes " " ++ (take 8 note.now ++ newline)) self.new }
-        ensures short { length (codes " " ++ (take 8 note.now ++ newline)) ≤ 10 }
+        ensures text { Appends self.old (codes " " ++ (take NOTE_LENGTH note.now ++ newline)) self.new }
+        ensures short { length (codes " " ++ (take NOTE_LENGTH note.now ++ newline)) ≤ NOTE_LENGTH + 2 }
     {
         self.push(b" ");
-        self.push(&note[..note.len().min(8)]);
+        self.push(&note[..note.len().min(NOTE_LENGTH)]);
         self.push(b"\n");
     }
 }

@@ -1,7 +1,7 @@
 // Lines: every result and letter, the longest, and what is left of the buffer.
 use super::samples::{ARRIVE, BAD, CLOSE, GOOD, OPEN, TURN, into_first};
 use answer::{Answer, Kind, Refusal, Sent, Turn};
-use record::{Call, Event, Letter, fault_line, line, read};
+use record::{Event, Letter, fault_line, line, read};
 use std::process::Abort;
 use std::test::Fail;
 
@@ -42,10 +42,7 @@ fn every_letter_has_its_line(rt: HostRuntime) -> Result<(), Fail> {
 
 #[test]
 fn every_kind_has_its_letter(rt: HostRuntime) {
-    let event = Event {
-        call: Call::Turn,
-        note: b"--------",
-    };
+    let event = Event::Turn { note: b"--------" };
     let sent = Some(Sent { sender: 1, tag: 3 });
     let turns: [(u64, Result<Answer, Refusal>, &[u8]); 5] = [
         (
@@ -81,10 +78,7 @@ fn every_kind_has_its_letter(rt: HostRuntime) {
 
 #[test]
 fn the_smallest_and_the_longest_line(rt: HostRuntime) {
-    let event = Event {
-        call: Call::Turn,
-        note: b"--------",
-    };
+    let event = Event::Turn { note: b"--------" };
     let least = Some(Sent { sender: 0, tag: 0 });
     let least = turn(0, least, 0, Kind::Normal);
     says(
@@ -104,8 +98,8 @@ fn the_smallest_and_the_longest_line(rt: HostRuntime) {
 
 #[test]
 fn refusals_of_the_cell_go_by_number(rt: HostRuntime) {
-    let event = Event {
-        call: Call::Close { place: 1 },
+    let event = Event::Close {
+        place: 1,
         note: b"--------",
     };
     let refusals: [(Refusal, &[u8]); 12] = [
@@ -152,20 +146,14 @@ fn of_a_longer_note_eight_bytes_are_shown(rt: HostRuntime) {
         (b"", b"7 G ok \n"),
     ];
     for (note, text) in notes {
-        let event = Event {
-            call: Call::Good { place: 0 },
-            note,
-        };
+        let event = Event::Good { place: 0, note };
         says(&rt, |out| line(7, event, Ok(Answer::Done), out), text);
     }
 }
 
 #[test]
 fn under_64_bytes_there_is_no_line(rt: HostRuntime) {
-    let event = Event {
-        call: Call::Turn,
-        note: b"--------",
-    };
+    let event = Event::Turn { note: b"--------" };
     assert_eq!(rt; Refusal::BufferTooShort.number(), 17);
     let expected = (Err(Refusal::BufferTooShort), [b'.'; 66]);
     // the length itself is what is tried
@@ -183,10 +171,7 @@ fn under_64_bytes_there_is_no_line(rt: HostRuntime) {
 
 #[test]
 fn from_64_bytes_on_there_is_one(rt: HostRuntime) {
-    let event = Event {
-        call: Call::Turn,
-        note: b"--------",
-    };
+    let event = Event::Turn { note: b"--------" };
     // the length itself is what is tried
     for n in 64..67 {
         assert_eq!(rt;

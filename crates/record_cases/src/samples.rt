@@ -2,7 +2,7 @@
 ghost use Rattle.std.specs.Prelude.{◌≤◌};
 
 use answer::{Fault, Layer, Refusal};
-use record::{Call, Event};
+use record::Event;
 
 // rate 720720 at place 63
 pub const OPEN: [u8; 16] = [
@@ -34,53 +34,43 @@ pub const TURN: [u8; 16] = [
 pub const SAID: [([u8; 16], Event<'static>); 6] = [
     (
         OPEN,
-        Event {
-            call: Call::Open {
-                place: 63,
-                rate: 720_720,
-            },
+        Event::Open {
+            place: 63,
+            rate: 720_720,
             note: b"hall 7 E",
         },
     ),
     (
         CLOSE,
-        Event {
-            call: Call::Close { place: 255 },
+        Event::Close {
+            place: 255,
             note: b"closed..",
         },
     ),
     (
         ARRIVE,
-        Event {
-            call: Call::Arrive {
-                place: 5,
-                length: 1536,
-                tag: 4_294_967_295,
-            },
+        Event::Arrive {
+            place: 5,
+            length: 1536,
+            tag: 4_294_967_295,
             note: b"caption ",
         },
     ),
     (
         GOOD,
-        Event {
-            call: Call::Good { place: 0 },
+        Event::Good {
+            place: 0,
             note: b"        ",
         },
     ),
     (
         BAD,
-        Event {
-            call: Call::Bad { place: 1 },
+        Event::Bad {
+            place: 1,
             note: b"~~~~~~~~",
         },
     ),
-    (
-        TURN,
-        Event {
-            call: Call::Turn,
-            note: b"--------",
-        },
-    ),
+    (TURN, Event::Turn { note: b"--------" }),
 ];
 
 // A fault of the record layer, made here: what is expected does not come from the code that is tested.

@@ -1,7 +1,7 @@
 // Writing: every letter, both refusals, and what is left of the buffer.
 use super::samples::{SAID, fault, into_first};
 use answer::{Fault, Refusal};
-use record::{Call, Event, read, write};
+use record::{Event, read, write};
 use std::process::Abort;
 use std::test::Fail;
 
@@ -34,12 +34,10 @@ fn every_letter_is_written(rt: HostRuntime) {
 
 #[test]
 fn numbers_are_little_endian(rt: HostRuntime) {
-    let arrive = Event {
-        call: Call::Arrive {
-            place: 9,
-            length: 0x0102,
-            tag: 0x0304_0506,
-        },
+    let arrive = Event::Arrive {
+        place: 9,
+        length: 0x0102,
+        tag: 0x0304_0506,
         note: b"--------",
     };
     writes(&rt, &arrive, b"A\x09\x02\x01\x06\x05\x04\x03--------");
@@ -56,10 +54,7 @@ fn what_was_read_is_written_back(rt: HostRuntime) -> Result<(), Fail> {
 
 #[test]
 fn a_longer_buffer_keeps_the_rest(rt: HostRuntime) {
-    let turn = Event {
-        call: Call::Turn,
-        note: b"--------",
-    };
+    let turn = Event::Turn { note: b"--------" };
     assert_eq!(rt;
         into_first(20, |out| write(&turn, out)),
         (Ok(()), *b"T\0\0\0\0\0\0\0--------....")
@@ -68,10 +63,7 @@ fn a_longer_buffer_keeps_the_rest(rt: HostRuntime) {
 
 #[test]
 fn a_shorter_buffer_is_refused_and_kept(rt: HostRuntime) {
-    let turn = Event {
-        call: Call::Turn,
-        note: b"--------",
-    };
+    let turn = Event::Turn { note: b"--------" };
     let too_short = fault(Refusal::BufferTooShort, 0, 0);
     assert_eq!(rt; too_short.refusal.number(), 17);
     // the length itself is what is tried
@@ -88,8 +80,8 @@ fn a_note_of_another_length_is_refused(rt: HostRuntime) {
     let text = b"----------------";
     // the length itself is what is tried
     for n in 0..17 {
-        let event = Event {
-            call: Call::Good { place: 1 },
+        let event = Event::Good {
+            place: 1,
             note: &text[..n],
         };
         writes_if(&rt, n == 8, &event);
@@ -110,8 +102,8 @@ fn a_note_that_is_not_printable_is_refused(rt: HostRuntime) {
         ] {
             let mut note = [b'-'; 8];
             note[at] = b;
-            let event = Event {
-                call: Call::Bad { place: 1 },
+            let event = Event::Bad {
+                place: 1,
                 note: &note,
             };
             writes_if(&rt, good, &event);
@@ -121,10 +113,7 @@ fn a_note_that_is_not_printable_is_refused(rt: HostRuntime) {
 
 #[test]
 fn the_note_is_looked_at_before_the_buffer(rt: HostRuntime) {
-    let event = Event {
-        call: Call::Turn,
-        note: b"short",
-    };
+    let event = Event::Turn { note: b"short" };
     let mut out = [b'.'; 15];
     assert_eq!(rt; write(&event, &mut out), Err(bad_note()));
 }

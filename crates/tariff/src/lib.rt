@@ -1,55 +1,22 @@
 // The tariff: which rates may be booked, and at what price.
 #![tactic(auto)]
 
-ghost use Rattle.std.specs.Prelude.{◌≡◌, is_ok};
-ghost use Rattle.tariff.specs.Booking.{asked, told};
-ghost use Rattle.tariff.specs.Tariff.{in_tariff};
-
-use answer::Refusal;
-
 mod rate;
 mod table;
 
 pub use rate::Rate;
-pub use table::rates;
+pub use table::{listed, rates};
 
-// What the link is divided into.
+/// How many units the link is divided into.
 pub const LINK: u32 = 720_720;
 
-// Where the table has this rate, or where it would stand.
-fn search(units: u32) -> Result<usize, usize>
-    ensures { is_ok result ≡ in_tariff units }
-{
-    rates().binary_search(&units)
-}
-
-// Whether the tariff has this rate.
-pub fn listed(units: u32) -> bool
-    ensures { result ≡ in_tariff units }
-{
-    search(units).is_ok()
-}
-
-// The rate of so many units, if the tariff has it.
-impl TryFrom<u32> for Rate {
-    type Error = Refusal;
-
-    ghost try_from_gives = { λ units r. told r ≡ asked units };
-
-    fn try_from(units: u32) -> Result<Rate, Refusal> {
-        if !listed(units) {
-            return Err(Refusal::RateNotInTariff);
-        }
-        Ok(Rate {
-            units,
-            price: LINK / units,
-        })
-    }
-}
+/// How many rates the tariff has.
+pub const RATES: usize = 240;
 
 #[cfg(test)]
 mod tests {
     use super::*;
+    use answer::Refusal;
     use std::test::Fail;
 
     #[test]

@@ -1,9 +1,12 @@
 // The table of rates.
-ghost use Rattle.tariff.specs.Tariff.{Whole};
+ghost use Rattle.std.specs.Prelude.{◌≡◌, is_ok};
+ghost use Rattle.tariff.specs.Tariff.{Whole, in_tariff};
+
+use crate::RATES;
 
 // Every divisor of the link, ascending.
 #[rattlefmt::skip]
-static TARIFF: [u32; 240] = [
+static TARIFF: [u32; RATES] = [
     1, 2, 3, 4, 5, 6, 7, 8, 9, 10, 11, 12, 13, 14, 15, 16, 18, 20, 21, 22, 24, 26, 28, 30, 33, 35,
     36, 39, 40, 42, 44, 45, 48, 52, 55, 56, 60, 63, 65, 66, 70, 72, 77, 78, 80, 84, 88, 90, 91, 99,
     104, 105, 110, 112, 117, 120, 126, 130, 132, 140, 143, 144, 154, 156, 165, 168, 176, 180, 182,
@@ -20,9 +23,23 @@ static TARIFF: [u32; 240] = [
     72072, 80080, 90090, 102960, 120120, 144144, 180180, 240240, 360360, 720720,
 ];
 
-// The tariff: all rates that may be booked, in ascending order.
-pub fn rates() -> &'static [u32; 240]
+/// The tariff: all rates that may be booked, in ascending order.
+pub fn rates() -> &'static [u32; RATES]
     ensures { Whole result.now }
 {
     &TARIFF
+}
+
+// Where the table has this rate, or where it would stand.
+fn search(units: u32) -> Result<usize, usize>
+    ensures { is_ok result ≡ in_tariff units }
+{
+    rates().binary_search(&units)
+}
+
+/// Whether the tariff has this rate.
+pub fn listed(units: u32) -> bool
+    ensures { result ≡ in_tariff units }
+{
+    search(units).is_ok()
 }

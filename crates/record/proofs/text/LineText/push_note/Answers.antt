@@ -1,7 +1,7 @@
 use Rattle.std.proofs.Common.{◌≡◌, ℕ, List, length, take, min, ap, ◌∙◌, arith}
 use Rattle.std.proofs.lemmas.List.{take_min}
 use Rattle.record.proofs.Putting.{and_then, retext}
-use Rattle.record.proofs.text.Text.push_note.Goals as goal
+use Rattle.record.proofs.text.LineText.push_note.Goals as goal
 
 pub returns-clause-text : goal.returns-clause-text
 returns-clause-text c =

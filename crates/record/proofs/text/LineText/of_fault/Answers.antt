@@ -1,7 +1,7 @@
 use Rattle.std.proofs.Common.{◌<◌, length, arith}
 use Rattle.record.specs.Lines.{fault_text, newline}
 use Rattle.record.proofs.Putting.{and_then, both_short, whole}
-use Rattle.record.proofs.text.Text.of_fault.Goals as goal
+use Rattle.record.proofs.text.LineText.of_fault.Goals as goal
 
 pub returns : goal.returns
 returns c =

@@ -1,6 +1,6 @@
 use Rattle.std.proofs.Common.{ℕ, ◌++◌, [], ◌∷◌, codes, ap}
 use Rattle.record.proofs.Putting.{and_then, retext}
-use Rattle.record.proofs.text.Text.push_turn.Goals as goal
+use Rattle.record.proofs.text.LineText.push_turn.Goals as goal
 
 pub returns-clause-text : goal.returns-clause-text
 returns-clause-text c =
