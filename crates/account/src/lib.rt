@@ -1,8 +1,6 @@
-// What a turn makes of one session.
+//! What a turn makes of one session.
 #![tactic(auto)]
 
 mod account;
-mod charge;
-mod turns;
 
 pub use account::Account;

@@ -1,7 +1,6 @@
-// Who departs, and who gets what it was owed.
+//! Who departs, and who gets what it was owed.
 #![tactic(auto)]
 
-mod depart;
 mod midway;
 mod share;
 

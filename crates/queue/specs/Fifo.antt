@@ -1,12 +1,13 @@
--- Frames wait in a list, first in first out, and at most 32 of them.
-use Rattle.std.specs.Prelude.{ℕ, Bool, cond, List, [], ◌∷◌, ◌++◌, length, Some, None, Ok, Err, Option, Result, ◌==◌, nat_le}
+-- Frames wait in a list, first in first out, and no more of them than there is room for.
+use Rattle.std.specs.Prelude.{ℕ, Bool, if◌then◌else◌, List, [], ◌∷◌, ◌++◌, length, Some, None, Ok, Err, Option, Result, ◌==◌, nat_le}
 use Rattle.answer.specs.declared.refusal.Refusal.{Refusal}
 use Rattle.answer.specs.declared.refusal.Refusal.TheVariants.{QueueFull}
+use Rattle.queue.specs.declared.TheConstants.{ROOM}
 use Rattle.queue.specs.declared.frame.Frame.{Frame}
 
 -- how many frames may wait
 abbrev pub room : ℕ
-room = 32
+room = ROOM
 
 abbrev pub is_full : List Frame → Bool
 is_full q = nat_le room (length q)
@@ -29,7 +30,7 @@ rest (f ∷ q) = q
 
 -- one frame more, if there is room: the answer, and the frames that wait then
 abbrev pub push_answer : List Frame → Result (Unit {0}) Refusal
-push_answer q = cond (is_full q) (Err QueueFull) (Ok tt)
+push_answer q = if is_full q then Err QueueFull else Ok tt
 
 abbrev pub pushed : List Frame → Frame → List Frame
-pushed q f = cond (is_full q) q (q ++ f ∷ [])
+pushed q f = if is_full q then q else q ++ f ∷ []

@@ -1,8 +1,6 @@
-// What the cell keeps of one place, and what can be said of one place alone.
+//! What the cell keeps of one place, and what can be said of one place alone.
 #![tactic(auto)]
 
-mod asks;
-mod changes;
 mod row;
 mod turns;
 

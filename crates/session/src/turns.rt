@@ -2,30 +2,30 @@
 ghost use Rattle.std.specs.Prelude.{◌≡◌, ◌^◌, ◌<◌};
 ghost use Rattle.model.specs.Departures.{departing, gone, active_rate};
 ghost use Rattle.model.specs.Session.{above_zero};
-ghost use Rattle.model.specs.Turn.{front, popped};
+ghost use Rattle.model.specs.Turn.{first_frame, popped};
 ghost use Rattle.session.specs.Seen.{seen};
 
 use super::row::Row;
 use queue::Frame;
 
 impl Row {
-    // Takes its first frame; a queue without one gives a frame of no bytes. No `Option`: only who is able is asked, so that both
-    // callers would have to unwrap it.
+    /// Takes its first frame; a queue without one gives a frame of no bytes.
     pub fn pop(&mut self) -> Frame
-        ensures frame { result ≡ front (seen self.old).queue }
+        ensures frame { result ≡ first_frame (seen self.old).queue }
         ensures after { seen self.new ≡ popped (seen self.old) }
     {
         self.queue.pop().unwrap_or_default()
     }
 
-    // Whether it departs: it is active, but has no frame and does not lead.
+    /// Whether it departs: it is active, but has no frame and does not lead.
     pub fn departs(&self) -> bool
         ensures { result ≡ departing (seen self.now) }
     {
         self.active && !self.waits() && !self.leads()
     }
 
-    // The rate by which it shares what another was owed.
+    /// The rate by which it shares what another was owed: its own while it is active, and 0 while
+    /// it is not.
     pub fn active_rate(&self) -> u64
         ensures is { result ≡ active_rate (seen self.now) }
         ensures most { result < 2 ^ 32 }
@@ -33,7 +33,7 @@ impl Row {
         if self.active { u64::from(self.rate) } else { 0 }
     }
 
-    // Ends its activity, and gives what it was still owed.
+    /// Ends its activity, and gives the bytes that it was still owed.
     pub fn depart(&mut self) -> u64
         ensures owed { result ≡ above_zero (seen self.old).lag }
         ensures after { seen self.new ≡ gone (seen self.old) }

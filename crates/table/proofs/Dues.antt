@@ -1,7 +1,9 @@
 -- Who is due: what the one search for the least key finds is the session that the definition asks for.
 use Rattle.std.proofs.Common.{◌≡◌, ℕ, zero, suc, ◌<◌, ◌≤◌, Bool, true, false, cond, ◌⊎◌, [], ◌∷◌, map, length, get_or, IfSome, Some, None, Option, sym, refl, ap, ◌∙◌, inl, inr, arith}
 use Rattle.std.proofs.lemmas.Bool.{both_ways, cases_lt, cond-true, ltb-true, ltb-false}
+use Rattle.std.specs.Prelude.{is_none, option_and_then}
 use Rattle.std.specs.Option.{option_map}
+use Rattle.chooser.specs.Limits.{places}
 use Rattle.keys.specs.Kinds.{time, time_before}
 use Rattle.keys.specs.Least.{Least, LeastAt}
 use Rattle.keys.specs.declared.time.VirtualTime.{VirtualTime}
@@ -10,7 +12,7 @@ use Rattle.model.proofs.Settle.{least_some}
 use Rattle.model.proofs.Share.{least_reached}
 use Rattle.model.proofs.Tables.{at_past}
 use Rattle.model.specs.Session.{Session}
-use Rattle.model.specs.Table.{Table, at, is_none, none_active, least, chosen, chosen_at}
+use Rattle.model.specs.Table.{Table, at, due, first, none_active, least_time, chosen}
 use Rattle.session.specs.Seen.{time_key}
 
 -- ---- the keys of a table
@@ -59,21 +61,21 @@ pub search_is : (t : Table) (r : Option ℕ) → Least time_before (map time_key
 search_is t None h = none_chosen t (chosen t) refl h
 search_is t (Some i) h = sym (next_chosen t i (least_next t i h.0 h.1))
 
-pub chosen_inside : (t : Table) (o : Option ℕ) → length t ≡ 64 → o ≡ chosen t → IfSome o (λ i. i < 64)
+pub chosen_inside : (t : Table) (o : Option ℕ) → length t ≡ places → o ≡ chosen t → IfSome o (λ i. i < places)
 chosen_inside t None n e = tt
 chosen_inside t (Some c) n e = omega (arith, (chosen_next t c (sym e)).inside)
 
 -- ---- and who is due has the smallest virtual time
 
-pub least_is : (t : Table) → least t ≡ option_map (λ i. (at t i).virtual_time) (chosen t)
+pub least_is : (t : Table) → least_time t ≡ option_map (λ i. (at t i).virtual_time) (chosen t)
 unfolding chosen
-least_is t = by (least t) refl
+least_is t = by (least_time t) refl
   where
     same : (a b : ℕ) → Some a ≡ Some b → a ≡ b
     same a b e = cc
 
-    by : (o : Option ℕ) → least t ≡ o → least t ≡ option_map (λ i. (at t i).virtual_time) (chosen t)
-    by None e = e ∙ ap (λ (o : Option ℕ). option_map (λ i. (at t i).virtual_time) (chosen_at t o)) (sym e)
+    by : (o : Option ℕ) → least_time t ≡ o → least_time t ≡ option_map (λ i. (at t i).virtual_time) (chosen t)
+    by None e = e ∙ ap (λ (o : Option ℕ). option_map (λ i. (at t i).virtual_time) (option_and_then (λ v. first (due v) t) o)) (sym e)
     by (Some v) e =
         let c = chosen_some t (ap is_none e) in
         let low = (chosen_next t c.0 c.1).least in

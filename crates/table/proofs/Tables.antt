@@ -2,6 +2,7 @@
 use Rattle.std.proofs.Common.{◌≡◌, ℕ, ◌+◌, ◌<◌, List, ◌∷◌, map, length, get_or, drop, set, Some, None, Option, sym, refl, ap, ◌∙◌, arith}
 use Rattle.std.proofs.lemmas.List.{length-map, get_or-map, map-set, at_drop_more}
 use Rattle.std.specs.Option.{option_map}
+use Rattle.chooser.specs.Limits.{places}
 use Rattle.chooser.specs.Places.{numbers}
 use Rattle.chooser.specs.declared.place.Place.{Place}
 use Rattle.model.proofs.Tables.{at_is, change_is}
@@ -38,7 +39,7 @@ left_more F rows i d l =
     at_drop_more F (table_of rows) i vacant m ∙ ap (λ s. F (s ∷ drop (i + 1) (table_of rows))) (getD_table rows i d vacant l)
 
 -- the virtual time of a place, read from its row
-pub times_read : (rows : List Row) (d : Row) (o : Option Place) → length rows ≡ 64 →
+pub times_read : (rows : List Row) (d : Row) (o : Option Place) → length rows ≡ places →
     option_map (λ (p : Place). (get_or rows p.number d).virtual_time) o ≡ option_map (λ i. (at (table_of rows) i).virtual_time) (numbers o)
 times_read rows d None n = refl
 times_read rows d (Some p) n = ap (λ (s : Session). Some s.virtual_time) (sym (at_table rows p.number d (omega (arith, p.inside))))

@@ -6,12 +6,12 @@ ghost use Rattle.model.specs.Table.{first, total};
 ghost use Rattle.session.specs.Seen.{seen};
 ghost use Rattle.table.specs.Places.{table_of};
 
-use chooser::Place;
+use chooser::{PLACES, Place};
 use session::Row;
 
-// The lowest place that departs.
+/// The lowest place that departs; none if nobody does.
 #[tactic(auto, using(crate::proofs::Chains::first_of))]
-pub fn first_to_depart(rows: &[Row; 64]) -> Option<Place>
+pub fn first_to_depart(rows: &[Row; PLACES]) -> Option<Place>
     ensures { numbers result ≡ first departing (table_of rows.now) }
 {
     first_departing(rows).and_then(Place::new)
@@ -25,9 +25,9 @@ fn first_departing(rows: &[Row]) -> Option<usize>
     rows.iter().position(Row::departs)
 }
 
-// The rates of the active sessions together.
+/// The rates of the active sessions together.
 #[tactic(auto, using(crate::proofs::Chains::total_of))]
-pub fn active_rates(rows: &[Row; 64]) -> u64
+pub fn active_rates(rows: &[Row; PLACES]) -> u64
     ensures { result ≡ total active_rate (table_of rows.now) }
 {
     rows.iter().map(Row::active_rate).sum()

@@ -1,4 +1,4 @@
-// The 64 places of a cell, read as a whole. Rows are an array and no struct with a model: they lie in C's memory.
+//! The places of a cell, read as a whole.
 #![tactic(auto)]
 
 mod departs;

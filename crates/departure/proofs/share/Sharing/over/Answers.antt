@@ -1,10 +1,9 @@
 use Rattle.std.proofs.Common.{ap, ◌∙◌, arith}
 use Rattle.std.proofs.lemmas.List.{length-set}
 use Rattle.model.specs.Departures.{active_rate}
-use Rattle.model.specs.Table.{total}
+use Rattle.model.specs.Table.{total, total_owed}
 use Rattle.table.specs.Places.{table_of}
 use Rattle.table.proofs.Tables.{length_table, left_more}
-use Rattle.departure.specs.Owing.{owing}
 use Rattle.departure.proofs.Shares.{share_more, share_all, rest_set}
 use Rattle.departure.proofs.share.Sharing.over.Goals as goal
 
@@ -13,7 +12,7 @@ unfolding total
 give-upto-requires c =
     let rows = c.loop-row.row-items in
     let rates = left_more (total active_rate) rows c.loop-row.row-index c.row-item.result (omega arith) in
-    let lags = left_more owing rows c.loop-row.row-index c.row-item.result (omega arith) in
+    let lags = left_more total_owed rows c.loop-row.row-index c.row-item.result (omega arith) in
     record { room = omega (arith, rates); lags = omega (arith, lags) }
 
 pub loop-row-preserved : goal.loop-row-preserved
@@ -25,12 +24,12 @@ loop-row-preserved c =
     let d = c.row-item.result in
     let self = c.args.self in
     let rates = left_more (total active_rate) rows i d (omega arith) in
-    let lags = left_more owing rows i d (omega arith) in
+    let lags = left_more total_owed rows i d (omega arith) in
     let same = rest_set rows i y in
     record {
       size = length-set rows i y ∙ c.loop-row.invariant.size;
       rates = omega (arith, rates, ap (total active_rate) same, c.give-upto.ensures.upto);
-      lags = omega (arith, lags, ap owing same);
+      lags = omega (arith, lags, ap total_owed same);
       shared =
           share_more self.lag self.rates c.loop-row.upto c.give-upto.result rows _ i d y (omega arith) c.give-upto.ensures.upto c.give-upto.ensures.after c.loop-row.invariant.shared;
     }

@@ -4,7 +4,7 @@ use Rattle.model.specs.Session.{Session, above_zero}
 use Rattle.model.specs.Table.{at, change}
 use Rattle.table.proofs.Tables.{at_table, written}
 use Rattle.table.specs.Places.{table_of}
-use Rattle.departure.proofs.depart.end.Goals as goal
+use Rattle.departure.proofs.midway.end.Goals as goal
 
 pub returns : goal.returns
 returns c =
