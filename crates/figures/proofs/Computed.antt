@@ -1,11 +1,11 @@
 -- The figures, by computing them.
-use Rattle.std.proofs.Common.{refl}
+use Rattle.std.proofs.Common.{ℕ, refl}
 use Rattle.chooser.specs.Offers.{all_sound}
 use Rattle.keys.specs.Places.{by_place}
-use Rattle.model.specs.Table.{at, change, vacancies, total, first, least, greatest, chosen}
+use Rattle.model.specs.Table.{at, change, vacancies, total, first, least_time, latest_time, chosen}
 use Rattle.model.specs.Lists.{stayed}
 use Rattle.model.specs.Departures.{share, departed, depart, departures}
-use Rattle.model.specs.Cell.{mark_after, told, joins, all_joins, settled}
+use Rattle.model.specs.Cell.{mark_after, joins_from, joins, all_joins, settled}
 use Rattle.model.specs.Calls.{turn_after, accepted, step}
 use Rattle.model.specs.History.{after}
 use Rattle.model.proofs.Figures.{worked}
@@ -13,8 +13,25 @@ use Rattle.figures.specs.Run.{answers}
 use Rattle.figures.specs.Figures.{AllFigures}
 use Rattle.figures.specs.Twelfth.{TwelfthFigures}
 
+-- all that offers, tables and calls compute with
+offers : ℕ
+unfolding all_sound by_place stayed
+offers = 0
+
+tables : ℕ
+unfolding at change vacancies total first least_time latest_time chosen
+tables = 0
+
+calls : ℕ
+unfolding share departed depart departures mark_after joins_from joins all_joins settled
+calls = 0
+
+steps : ℕ
+unfolding turn_after accepted step after
+steps = 0
+
 pub all_figures : AllFigures
-unfolding all_sound by_place at change vacancies total first least greatest chosen stayed share departed depart departures mark_after told joins all_joins settled turn_after accepted step after answers
+unfolding offers tables calls steps answers
 all_figures = record {
   worked = worked _;
   tie = refl;
@@ -27,5 +44,5 @@ all_figures = record {
 }
 
 pub twelfth_figures : TwelfthFigures
-unfolding all_sound by_place at change vacancies total first least greatest chosen stayed share departed depart departures mark_after told joins all_joins settled turn_after accepted step after
+unfolding offers tables calls steps
 twelfth_figures = record { time_0 = refl; time_1 = refl; allowance_0 = refl; allowance_1 = refl }

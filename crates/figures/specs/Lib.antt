@@ -1,3 +1,3 @@
 pub mod Run
-pub mod Figures
 pub mod Twelfth
+pub mod Figures

@@ -1,12 +1,14 @@
--- The books of a cell: in order when it is new, kept in order by every call, and what they say of each number.
-use Rattle.std.proofs.Common.{◌≡◌, ℕ, zero, suc, ◌*◌, ◌≤◌, true, false, ◌||◌, ◌⊎◌, length, ℤ, pos, nat_abs, Some, sym, refl, ap, ◌∙◌, subst, inl, inr, le_trans, arith}
+-- The books of a cell: in order when it is new, kept in order by every call, and what they say of
+-- each number.
+use Rattle.std.proofs.Common.{◌≡◌, ℕ, zero, suc, ◌*◌, ◌≤◌, true, false, ◌||◌, ◌⊎◌, length, ℤ, pos}
+use Rattle.std.proofs.Common.{nat_abs, Some, sym, refl, ap, ◌∙◌, subst, inl, inr, le_trans, arith}
 use lib.Signed.{lt_z}
 use borrow.Author.Differences.{ints}
 use Rattle.std.proofs.lemmas.Bool.{cases_Bool, false≢true, or_parts, or_from}
 use Rattle.model.specs.Limits.{places, longest, quarters}
 use Rattle.model.specs.Session.{Session, vacant, waiting, leads, above_zero}
-use Rattle.model.specs.Table.{at, vacancies, total, totalℤ, least}
-use Rattle.model.specs.Meaning.{Meaning, Lawful}
+use Rattle.model.specs.Table.{at, vacancies, total, totalℤ, least_time}
+use Rattle.chooser.specs.Meaning.{Meaning, Lawful}
 use Rattle.model.specs.Cell.{Cell}
 use Rattle.model.specs.Calls.{Call, step, new}
 use Rattle.model.specs.Sound.{Orderly, Sound}
@@ -64,7 +66,8 @@ new_within keep c k = record { keep = k; mark = omega arith; rows = λ j. subst 
 
 -- ---- the layers of the proof and the books say the same
 
-pub row_status : (m : ℕ) (s : Session) → Row m s → (s.active ≡ true → (waiting s || leads s) ≡ true) →
+pub row_status : (m : ℕ) (s : Session) → Row m s →
+    (s.active ≡ true → (waiting s || leads s) ≡ true) →
     s.active ≡ (waiting s || leads s)
 row_status m s r b = by (cases_Bool s.active)
   where
@@ -88,7 +91,7 @@ module _ {C : Type 0} (x : Cell C) where
         room = r.room;
       }
 
-  lowest : Ordered x → (v : ℕ) → least x.table ≡ Some v → v ≡ x.mark
+  lowest : Ordered x → (v : ℕ) → least_time x.table ≡ Some v → v ≡ x.mark
   lowest s v e =
       let r = least_reached x.table v e in
       same v x.mark (sym e ∙ s.book.lowest r.0 r.2)
@@ -110,7 +113,7 @@ module _ {C : Type 0} (x : Cell C) where
   }
 
   least_mark : Sound x → (j : ℕ) → (at x.table j).active ≡ true →
-      (least x.table ≡ Some x.mark) × (x.mark ≤ (at x.table j).virtual_time)
+      (least_time x.table ≡ Some x.mark) × (x.mark ≤ (at x.table j).virtual_time)
   least_mark b j a =
       let r = least_some x.table j a in
       let e = b.lowest r.0 r.1 in
@@ -154,5 +157,6 @@ step_sound M law x call b =
 -- ---- what they say of a lag
 
 -- no lag is further from zero than what all lagging sessions together are owed
-pub lag_low : {C : Type 0} (x : Cell C) (i : ℕ) → Ordered x → nat_abs (at x.table i).lag ≤ longest * x.turns
+pub lag_low : {C : Type 0} (x : Cell C) (i : ℕ) → Ordered x →
+    nat_abs (at x.table i).lag ≤ longest * x.turns
 lag_low x i s = le_trans (lag_within x.table i s.book.draft.balance) s.owing

@@ -1,14 +1,20 @@
--- How far virtual times, the mark and allowances can get: one frame at the dearest price for each accepted turn.
-use Rattle.std.proofs.Common.{◌≡◌, ℕ, zero, suc, ◌+◌, ◌*◌, ◌≤◌, max, Bool, true, false, not, ◌&&◌, [], ◌∷◌, ℤ, pos, negsuc, ◌+ℤ◌, ◌-ℤ◌, nat_abs, Some, None, Option, sym, refl, subst, mul-le-mul, arith}
+-- How far virtual times, the mark and allowances can get: one frame at the dearest price for each
+-- accepted turn.
+use Rattle.std.proofs.Common.{◌≡◌, ℕ, zero, suc, ◌+◌, ◌*◌, ◌≤◌, max, Bool, true, false, not, ◌&&◌}
+use Rattle.std.proofs.Common.{List, [], ◌∷◌, ℤ, pos, negsuc, ◌+ℤ◌, ◌-ℤ◌, nat_abs, Some, None}
+use Rattle.std.proofs.Common.{Option, sym, refl, subst, mul-le-mul, arith}
 use lib.Signed.{lt_z}
 use borrow.Author.Differences.{ints}
 use Rattle.std.proofs.lemmas.Bool.{cond_both}
 use Rattle.tariff.specs.Tariff.{link, price_of}
 use Rattle.model.specs.Limits.{longest, quarters, dearest}
 use Rattle.model.specs.Session.{Session, vacant, fresh, with_good, leads}
-use Rattle.model.specs.Table.{Table, at, change, least, greatest, none_active, active_count, chosen}
-use Rattle.model.specs.Meaning.{Meaning, Lawful}
-use Rattle.model.specs.Turn.{Way, by_right, by_allowance, by_credit, unclaimed, by_extra, idle, sender, length_of}
+use Rattle.model.specs.Table.{Table, at, change, least_time, latest_time, none_active, active_count}
+use Rattle.model.specs.Table.{chosen}
+use Rattle.chooser.specs.Meaning.{Meaning, Lawful}
+use Rattle.chooser.specs.Tellings.{Telling}
+use Rattle.model.specs.Turn.{Way, by_right, by_allowance, by_credit, unclaimed, by_extra, idle}
+use Rattle.model.specs.Turn.{sender, length_of}
 use Rattle.model.specs.Turn.{charged, sends, hands_on, takes_up, turned}
 use Rattle.model.specs.Departures.{departures}
 use Rattle.model.specs.Cell.{Cell, mark_from, mark_after, settled}
@@ -27,25 +33,27 @@ Low b s = (s.virtual_time ≤ b) × (nat_abs s.allowance ≤ quarters * b)
 
 -- ---- the mark
 
-greatest_low : (b : ℕ) (t : Table) → ((j : ℕ) → Low b (at t j)) → greatest t ≤ b
-unfolding at greatest
+greatest_low : (b : ℕ) (t : Table) → ((j : ℕ) → Low b (at t j)) → latest_time t ≤ b
+unfolding at latest_time
 greatest_low b [] h = omega arith
 greatest_low b (s ∷ t) h = omega (arith, (h 0).0, greatest_low b t (λ j. h (suc j)))
 
-mark_from_low : (b m : ℕ) (u : Table) (o : Option ℕ) (e : Bool) → m ≤ b → ((j : ℕ) → Low b (at u j)) → least u ≡ o →
-    mark_from o e (greatest u) m ≤ b
+mark_from_low : (b m : ℕ) (u : Table) (o : Option ℕ) (e : Bool) → m ≤ b →
+    ((j : ℕ) → Low b (at u j)) → least_time u ≡ o →
+    mark_from o e (latest_time u) m ≤ b
 mark_from_low b m u (Some v) e l h f = let r = least_reached u v f in omega (arith, (h r.0).0, r.3)
 mark_from_low b m u None true l h f = l
 mark_from_low b m u None false l h f = greatest_low b u h
 
 mark_low : (b m : ℕ) (t u : Table) → m ≤ b → ((j : ℕ) → Low b (at u j)) → mark_after m t u ≤ b
 unfolding mark_after
-mark_low b m t u l h = mark_from_low b m u (least u) (none_active t) l h refl
+mark_low b m t u l h = mark_from_low b m u (least_time u) (none_active t) l h refl
 
 -- ---- one turn
 
 -- a number that moves by at most d, up and down
-abs_moves : (z : ℤ) (x y d b : ℕ) → nat_abs z ≤ b → x ≤ d → y ≤ d → nat_abs (z +ℤ pos x -ℤ pos y) ≤ b + d
+abs_moves : (z : ℤ) (x y d b : ℕ) → nat_abs z ≤ b → x ≤ d → y ≤ d →
+    nat_abs (z +ℤ pos x -ℤ pos y) ≤ b + d
 abs_moves z x y d b h k l = by z (z +ℤ pos x -ℤ pos y) refl h
   where
     by : (z w : ℤ) → w ≡ z +ℤ pos x -ℤ pos y → nat_abs z ≤ b → nat_abs w ≤ b + d
@@ -64,7 +72,8 @@ dear m n s r a l = by s.rate (r.priced (active_booked m s r a))
         let p : s.price ≤ link = omega arith in
         omega (arith, mul-le-mul l p)
 
-charged_low : (keep spent n b : ℕ) (s : Session) → keep ≤ quarters → spent ≤ quarters → n * s.price ≤ dearest →
+charged_low : (keep spent n b : ℕ) (s : Session) → keep ≤ quarters → spent ≤ quarters →
+    n * s.price ≤ dearest →
     Low b s → Low (b + dearest) (charged keep spent n s)
 charged_low keep spent n b s k p d h = (
   omega (arith, h.0, d),
@@ -96,7 +105,8 @@ module _ (keep n b : ℕ) (t : Table) (c : ℕ) (k : keep ≤ quarters) (d : n *
   charge_low spent p = charged_low keep spent n b (at t c) k p d (h c)
 
   -- a turn is handed on
-  pair_low : (q j : ℕ) → Low (b + dearest) (at (change (change t c (hands_on keep n)) q (takes_up n)) j)
+  pair_low : (q j : ℕ) →
+      Low (b + dearest) (at (change (change t c (hands_on keep n)) q (takes_up n)) j)
   pair_low q =
       let given = one_low (hands_on keep n) (charge_low 0 (omega arith)) in
       let u = change t c (hands_on keep n) in
@@ -110,7 +120,8 @@ module _ (keep n b : ℕ) (t : Table) (c : ℕ) (k : keep ≤ quarters) (d : n *
   turned_low (by_credit q) = pair_low q
   turned_low (by_extra q) = pair_low q
 
-departures_low : (b : ℕ) (t : Table) → ((j : ℕ) → Low b (at t j)) → (j : ℕ) → Low b (at (departures t) j)
+departures_low : (b : ℕ) (t : Table) → ((j : ℕ) → Low b (at t j)) → (j : ℕ) →
+    Low b (at (departures t) j)
 unfolding departures
 departures_low b t h j = (
   omega (arith, (h j).0, depart_same (λ s. s.virtual_time) (λ n s. refl) (λ s. refl) (active_count t) t j),
@@ -125,16 +136,18 @@ pub record Within {C : Type 0} (x : Cell C) : Type 0 where
   pub rows : (j : ℕ) → Low (dearest * x.turns) (at x.table j)
 
 module _ {C : Type 0} (M : Meaning C) (law : Lawful M) where
-  settled_within : (x : Cell C) (u : Table) (n : ℕ) (c : C) → x.keep ≤ quarters → x.mark ≤ dearest * n →
-      ((j : ℕ) → Low (dearest * n) (at u j)) → Within (settled M x u n c)
+  settled_within : (x : Cell C) (u : Table) (n : ℕ) (ts : List Telling) → x.keep ≤ quarters →
+      x.mark ≤ dearest * n →
+      ((j : ℕ) → Low (dearest * n) (at u j)) → Within (settled M x u n ts)
   unfolding settled
-  settled_within x u n c k m h = record { keep = k; mark = mark_low (dearest * n) x.mark x.table u m h; rows = h }
+  settled_within x u n ts k m h = record { keep = k; mark = mark_low (dearest * n) x.mark x.table u m h; rows = h }
 
   -- a call that is no turn
-  calm_within : (x : Cell C) (p : ℕ) (f : Session → Session) (c : C) → Within x →
-      Low (dearest * x.turns) (f (at x.table p)) → Within (settled M x (change x.table p f) x.turns c)
-  calm_within x p f c w h =
-      settled_within x (change x.table p f) x.turns c w.keep w.mark
+  calm_within : (x : Cell C) (p : ℕ) (f : Session → Session) (ts : List Telling) → Within x →
+      Low (dearest * x.turns) (f (at x.table p)) →
+      Within (settled M x (change x.table p f) x.turns ts)
+  calm_within x p f ts w h =
+      settled_within x (change x.table p f) x.turns ts w.keep w.mark
       (each_change (Low (dearest * x.turns)) x.table p f w.rows h)
 
   turn_within : (x : Cell C) (c : ℕ) → Ordered x → Within x → chosen x.table ≡ Some c →
@@ -142,7 +155,7 @@ module _ {C : Type 0} (M : Meaning C) (law : Lawful M) where
   unfolding turn_after
   turn_within x c s w e =
       let k = chosen_is x.mark x.table c s.book e in
-      let v = decide M x c in
+      let v = decide M x.chooser x.table c in
       let n = length_of x.table (sender c v) in
       let l = way_fits x.mark x.table c v s.book.draft (decides M law x c s) in
       let d = dear x.mark n (at x.table c) (s.book.draft.rows c) k.active l in

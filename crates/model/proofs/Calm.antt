@@ -1,13 +1,17 @@
 -- A call that is no turn changes one place and moves no account.
-use Rattle.std.proofs.Common.{◌≡◌, ℕ, ◌+◌, ◌-◌, ◌*◌, ◌<◌, ◌≤◌, max, Bool, true, false, cond, ◌||◌, ◌⊎◌, List, [], ◌∷◌, ◌++◌, length, sym, refl, ap, ◌∙◌, subst, inl, inr, zero-mul, arith}
+use Rattle.std.proofs.Common.{◌≡◌, ℕ, ◌+◌, ◌-◌, ◌*◌, ◌<◌, ◌≤◌, max, Bool, true, false, cond, ◌||◌}
+use Rattle.std.proofs.Common.{◌⊎◌, List, [], ◌∷◌, ◌++◌, length, sym, refl, ap, ◌∙◌, subst, inl, inr}
+use Rattle.std.proofs.Common.{zero-mul, arith}
 use native.Mathlib.Decide.{ℕ_discrete}
 use Rattle.std.proofs.lemmas.List.{length-append}
 use Rattle.std.proofs.ByRecursion.{All-append}
-use Rattle.std.proofs.lemmas.Bool.{cases_Bool, both_ways, true≢false, false≢true, or_left, cond-true, cond-false}
+use Rattle.std.proofs.lemmas.Bool.{cases_Bool, both_ways, true≢false, false≢true, or_left}
+use Rattle.std.proofs.lemmas.Bool.{cond-true, cond-false}
 use Rattle.tariff.specs.Tariff.{link, in_tariff, price_of}
 use Rattle.tariff.proofs.Wholes.{factored}
 use Rattle.model.specs.Limits.{longest, most_waiting}
-use Rattle.model.specs.Session.{Frame, Session, vacant, fresh, with_good, able, waiting, some_wait, leads}
+use Rattle.model.specs.Session.{Frame, Session, vacant, fresh, with_good, able, waiting, some_wait}
+use Rattle.model.specs.Session.{leads}
 use Rattle.model.specs.Table.{Table, at, change, total, booked_total}
 use Rattle.model.specs.Cell.{mark_after}
 use Rattle.model.specs.Calls.{arrived}
@@ -28,7 +32,8 @@ pub record Calm (m : ℕ) (s s' : Session) : Type 0 where
 module _ (m : ℕ) (t : Table) (p : ℕ) (f : Session → Session) (inside : p < length t) (b : Book m t)
     (k : Calm m (at t p) (f (at t p))) (few : booked_total (change t p f) ≤ link) where
   -- what holds of each place as it was, and of the one that is changed, holds after
-  after_change : (P : ℕ → Session → Type 0) → P p (f (at t p)) → ((j : ℕ) → P j (at t j)) → (j : ℕ) →
+  after_change : (P : ℕ → Session → Type 0) → P p (f (at t p)) → ((j : ℕ) → P j (at t j)) →
+      (j : ℕ) →
       P j (at (change t p f) j)
   after_change P new old j = by (ℕ_discrete p j)
     where
@@ -107,7 +112,8 @@ vacant_row m = record {
   room = omega arith;
 }
 
-pub close_calm : (m : ℕ) (s : Session) → Row m s → s.active ≡ false → s.virtual_time ≤ m → Calm m s vacant
+pub close_calm : (m : ℕ) (s : Session) → Row m s → s.active ≡ false → s.virtual_time ≤ m →
+    Calm m s vacant
 close_calm m s row e v =
     let z : s.virtual_time - m ≡ 0 = omega arith in
     let z' = ap (λ (k : ℕ). k * s.rate) z in

@@ -1,24 +1,29 @@
 -- The ways in which a call can go: refused, or accepted with all its tests passed.
-use Rattle.std.proofs.Common.{◌≡◌, ℕ, ◌+◌, ◌<◌, ◌≤◌, Bool, true, false, cond, eqb, ltb, leb, List, [], ◌∷◌, length, Some, None, Err, Option, sym, refl, subst, arith}
+use Rattle.std.proofs.Common.{◌≡◌, ℕ, ◌+◌, ◌<◌, ◌≤◌, Bool, true, false, cond, eqb, ltb, leb, List}
+use Rattle.std.proofs.Common.{[], ◌∷◌, length, Some, None, Err, Option, sym, refl, subst, arith}
+use Rattle.std.specs.Prelude.{unwrap_or}
 use Rattle.std.specs.List.{AllByRecursion}
 use Rattle.std.proofs.lemmas.Bool.{not-false, or_parts, eqb-false, ltb-false, leb-false}
 use Rattle.answer.specs.declared.refusal.Refusal.{Refusal}
 use Rattle.tariff.specs.Tariff.{link, in_tariff}
 use Rattle.model.specs.Limits.{places, longest, most_waiting, most_turns}
 use Rattle.model.specs.Table.{at, booked_total, chosen}
-use Rattle.model.specs.Meaning.{Meaning}
+use Rattle.chooser.specs.Meaning.{Meaning}
 use Rattle.model.specs.Cell.{Cell}
-use Rattle.model.specs.Calls.{Call, opening, closing, arrival, report, turn, first_refusal, refusal, refusals, found}
+use Rattle.model.specs.Calls.{Call, opening, closing, arrival, report, turn, first_refusal, refusal}
+use Rattle.model.specs.Calls.{refusals}
 use Rattle.model.specs.Calls.{Outcome, turn_of, accepted, outcome, step}
 use Rattle.model.proofs.Chosen.{chosen_some}
 
 -- no refusal: no condition of the list held
-passed : (cs : List (Bool × Refusal)) → first_refusal cs ≡ None → AllByRecursion (λ c. c.0 ≡ false) cs
+passed : (cs : List (Bool × Refusal)) → first_refusal cs ≡ None →
+    AllByRecursion (λ c. c.0 ≡ false) cs
 passed [] e = tt
 passed (c ∷ cs) e = by c.0 refl e (λ g. passed cs g)
   where
     by : (b : Bool) → c.0 ≡ b → cond b (Some c.1) (first_refusal cs) ≡ None →
-        (first_refusal cs ≡ None → AllByRecursion (λ c. c.0 ≡ false) cs) → (c.0 ≡ false) × AllByRecursion (λ c. c.0 ≡ false) cs
+        (first_refusal cs ≡ None → AllByRecursion (λ c. c.0 ≡ false) cs) →
+        (c.0 ≡ false) × AllByRecursion (λ c. c.0 ≡ false) cs
     by true f g ih = let z : ◌≡◌ {A = ℕ} 0 1 = cc in absurd (omega arith)
     by false f g ih = (f, ih g)
 
@@ -37,7 +42,8 @@ module _ {C : Type 0} (M : Meaning C) (x : Cell C) (size : length x.table ≡ pl
   inside : (p : ℕ) → leb places p ≡ false → p < length x.table
   inside p e = omega (arith, leb-false places p e, size)
 
-  accepts : (call : Call) → AllByRecursion (λ c. c.0 ≡ false) (refusals x call) → P call (accepted M x call)
+  accepts : (call : Call) → AllByRecursion (λ c. c.0 ≡ false) (refusals x call) →
+      P call (accepted M x call)
   unfolding accepted
   accepts (opening p r) h =
       opens p r (inside p h.0) h.1.0 (not-false (in_tariff r) h.1.1.0)
@@ -53,7 +59,7 @@ module _ {C : Type 0} (M : Meaning C) (x : Cell C) (size : length x.table ≡ pl
   accepts (report p b) h = reports p b (inside p h.0) (not-false (at x.table p).booked h.1.0)
   accepts turn h =
       let c = chosen_some x.table h.0 in
-      subst (λ (o : Option ℕ). P turn (turn_of M x (found o))) (sym c.1) (turns c.0 c.1 (leb-false most_turns x.turns h.1.0))
+      subst (λ (o : Option ℕ). P turn (turn_of M x (unwrap_or o 0))) (sym c.1) (turns c.0 c.1 (leb-false most_turns x.turns h.1.0))
 
   pub each_case : (call : Call) → P call (step M x call)
   unfolding step

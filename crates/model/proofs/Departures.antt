@@ -1,24 +1,34 @@
 -- Departures keep the accounts, and end when nobody is gone to depart.
-use Rattle.std.proofs.Common.{◌≡◌, ℕ, zero, suc, ◌+◌, ◌-◌, ◌*◌, ◌/◌, ◌<◌, ◌≤◌, Bool, true, false, not, ◌&&◌, ◌||◌, ◌⊎◌, [], ◌∷◌, length, ℤ, pos, negsuc, ◌+ℤ◌, ◌≤ℤ◌, Some, None, Option, sym, refl, ap, ◌∙◌, subst, ap₂, inl, inr, le_trans, le_refl, add-zero, mul-le-mul_left, mul-zero, le-div_iff_mul-le, zero-add, div-mul-le_self, mul-div_cancel, arith}
+use Rattle.std.proofs.Common.{◌≡◌, ℕ, zero, suc, ◌+◌, ◌-◌, ◌*◌, ◌/◌, ◌<◌, ◌≤◌, Bool, true, false}
+use Rattle.std.proofs.Common.{not, ◌&&◌, ◌||◌, ◌⊎◌, [], ◌∷◌, length, ℤ, pos, negsuc, ◌+ℤ◌, ◌≤ℤ◌}
+use Rattle.std.proofs.Common.{Some, None, Option, sym, refl, ap, ◌∙◌, subst, ap₂, inl, inr}
+use Rattle.std.proofs.Common.{le_trans, le_refl, add-zero, mul-le-mul_left, mul-zero}
+use Rattle.std.proofs.Common.{le-div_iff_mul-le, zero-add, div-mul-le_self, mul-div_cancel, arith}
 use native.Mathlib.Nat.{div-zero}
 use native.Mathlib.Nat.{zero-div, sub_self}
 use lib.Signed.{lt_z}
 use borrow.Author.Differences.{ints}
-use Rattle.std.proofs.lemmas.Bool.{cases_Bool, both_ways, true≢false, false≢true, and_parts, not-true, cond-true, cond-false}
+use Rattle.std.proofs.lemmas.Bool.{cases_Bool, both_ways, true≢false, false≢true, and_parts}
+use Rattle.std.proofs.lemmas.Bool.{not-true, cond-true, cond-false}
 use Rattle.tariff.specs.Tariff.{link}
 use Rattle.model.specs.Session.{Session, vacant, waiting, leads, above_zero}
 use Rattle.model.specs.Table.{active_count, Table, at, change, total, totalℤ, first, one_if}
+use Rattle.model.specs.Table.{total_owed}
 use Rattle.model.specs.Turn.{owed}
-use Rattle.model.specs.Departures.{departing, gone, active_rate, share, departed, depart, departures}
+use Rattle.model.specs.Departures.{departing, gone, active_rate, share, departed, depart}
+use Rattle.model.specs.Departures.{departures}
 use Rattle.model.specs.Sound.{Midway}
-use Rattle.model.proofs.Tables.{length_change, at_other, total_change, total_same, totalℤ_change, totalℤ_none}
-use Rattle.model.proofs.Tables.{total_zero, first_found, first_none, first_never, each_change, change_same}
-use Rattle.model.proofs.Ledger.{Row, Draft, owing}
+use Rattle.model.proofs.Tables.{length_change, at_other, total_change, total_same, totalℤ_change}
+use Rattle.model.proofs.Tables.{totalℤ_none}
+use Rattle.model.proofs.Tables.{total_zero, first_found, first_none, first_never, each_change}
+use Rattle.model.proofs.Tables.{change_same}
+use Rattle.model.proofs.Ledger.{Row, Draft}
 use Rattle.model.proofs.Share.{active_booked}
 
 div_mono : (r : ℕ) {a b : ℕ} → a ≤ b → a / r ≤ b / r
 div_mono zero {a} {b} h = omega (arith, div-zero a, div-zero b)
-div_mono (suc r) {a} {b} h = (le-div_iff_mul-le (omega arith)).1 (le_trans (div-mul-le_self a (suc r)) h)
+div_mono (suc r) {a} {b} h =
+    (le-div_iff_mul-le (omega arith)).1 (le_trans (div-mul-le_self a (suc r)) h)
 
 pub owed_more : (z : ℤ) (n : ℕ) → above_zero (z +ℤ pos n) ≤ above_zero z + n
 owed_more z n = by (z +ℤ pos n) z refl
@@ -48,7 +58,8 @@ share_at l r c (s ∷ t) zero =
     (l * (c + active_rate s) / r - l * c / r, refl, λ e. no_part l r c (active_rate s) (cond-false s.active s.rate 0 e))
 share_at l r c (s ∷ t) (suc j) = share_at l r (c + active_rate s) t j
 
-total_share : (g : Session → ℕ) → ((n : ℕ) (s : Session) → g (owed n s) ≡ g s) → (l r c : ℕ) (t : Table) →
+total_share : (g : Session → ℕ) → ((n : ℕ) (s : Session) → g (owed n s) ≡ g s) →
+    (l r c : ℕ) (t : Table) →
     total g (share l r c t) ≡ total g t
 unfolding share total
 total_share g h l r c [] = refl
@@ -74,7 +85,7 @@ parts l r c e (s ∷ t) h =
 
 -- and no more is owed after than before, but for what was shared
 parts_owed : (l r c e : ℕ) (t : Table) → c + total active_rate t ≡ e →
-    owing (share l r c t) ≤ owing t + (l * e / r - l * c / r)
+    total_owed (share l r c t) ≤ total_owed t + (l * e / r - l * c / r)
 unfolding share total
 parts_owed l r c e [] h = omega arith
 parts_owed l r c e (s ∷ t) h =
@@ -86,7 +97,8 @@ parts_owed l r c e (s ∷ t) h =
 
 -- ---- one departure
 
-departs : (s : Session) → departing s ≡ true → (s.active ≡ true) × (waiting s ≡ false) × (leads s ≡ false)
+departs : (s : Session) → departing s ≡ true →
+    (s.active ≡ true) × (waiting s ≡ false) × (leads s ≡ false)
 departs s e =
     let p = and_parts s.active (not (waiting s) && not (leads s)) e in
     let q = and_parts (not (waiting s)) (not (leads s)) p.1 in
@@ -161,7 +173,7 @@ rate_some m s r a = by s.rate (r.priced (active_booked m s r a))
     by zero e = absurd (omega arith)
     by (suc k) e = omega arith
 
-pub midway_of : (m most : ℕ) (t : Table) → Draft m t → owing t ≤ most → Midway most t
+pub midway_of : (m most : ℕ) (t : Table) → Draft m t → total_owed t ≤ most → Midway most t
 midway_of m most t d o = record {
   size = d.size;
   rates = d.rates;
@@ -180,7 +192,8 @@ module _ (t : Table) (k : ℕ) (inside : k < length t) (goes : departing (at t k
       omega (arith, ints)
 
   -- what it was owed is handed out whole, unless nobody is left to have it
-  pub departed_sum : (rates_left t k ≡ 0 → lost t k ≡ 0) → totalℤ (λ s. s.lag) (departed t (Some k)) ≡ totalℤ (λ s. s.lag) t
+  pub departed_sum : (rates_left t k ≡ 0 → lost t k ≡ 0) →
+      totalℤ (λ s. s.lag) (departed t (Some k)) ≡ totalℤ (λ s. s.lag) t
   unfolding departed
   departed_sum h =
       parts (lost t k) (rates_left t k) 0 (rates_left t k) (less t k) (zero-add (rates_left t k))
@@ -188,7 +201,7 @@ module _ (t : Table) (k : ℕ) (inside : k < length t) (goes : departing (at t k
       ∙ lag_less
 
   -- no more is owed than before
-  departed_owes : owing (departed t (Some k)) ≤ owing t
+  departed_owes : total_owed (departed t (Some k)) ≤ total_owed t
   unfolding departed
   departed_owes =
       let a = parts_owed (lost t k) (rates_left t k) 0 (rates_left t k) (less t k) (zero-add (rates_left t k)) in
@@ -215,7 +228,8 @@ module _ (t : Table) (k : ℕ) (inside : k < length t) (goes : departing (at t k
     departed_midway : Midway most (departed t (Some k))
     unfolding departed
     departed_midway = record {
-      size = length_share (lost t k) (rates_left t k) 0 (less t k) ∙ length_change t k gone ∙ d.size;
+      size =
+          length_share (lost t k) (rates_left t k) 0 (less t k) ∙ length_change t k gone ∙ d.size;
       rates =
           omega (
             arith,
@@ -238,7 +252,7 @@ module _ (t : Table) (k : ℕ) (inside : k < length t) (goes : departing (at t k
   departed_draft : (m : ℕ) → Draft m t → Draft m (departed t (Some k))
   unfolding departed
   departed_draft m d =
-      let w = departed_midway (owing t) (midway_of m (owing t) t d (le_refl (owing t))) in
+      let w = departed_midway (total_owed t) (midway_of m (total_owed t) t d (le_refl (total_owed t))) in
       let rows =
       each_change (Row m) t k gone d.rows
       (row_gone m (at t k) (d.rows k) (departs (at t k) goes).0 (departs (at t k) goes).1) in
@@ -261,7 +275,8 @@ module _ (t : Table) (k : ℕ) (inside : k < length t) (goes : departing (at t k
       omega arith
 
   -- a session with a frame stays, and its lag does not fall
-  departed_waits : (j : ℕ) → waiting (at t j) ≡ true → (n : ℕ) × (at (departed t (Some k)) j ≡ owed n (at t j))
+  departed_waits : (j : ℕ) → waiting (at t j) ≡ true →
+      (n : ℕ) × (at (departed t (Some k)) j ≡ owed n (at t j))
   unfolding departed
   departed_waits j w =
       let r = share_at (lost t k) (rates_left t k) 0 (less t k) j in
@@ -281,11 +296,13 @@ module _ (t : Table) (k : ℕ) (inside : k < length t) (goes : departing (at t k
   departed_total : (g : Session → ℕ) → ((n : ℕ) (s : Session) → g (owed n s) ≡ g s) →
       ((s : Session) → g (gone s) ≡ g s) → total g (departed t (Some k)) ≡ total g t
   unfolding departed
-  departed_total g h l = total_share g h (lost t k) (rates_left t k) 0 (less t k) ∙ total_same g t k gone (l (at t k))
+  departed_total g h l =
+      total_share g h (lost t k) (rates_left t k) 0 (less t k) ∙ total_same g t k gone (l (at t k))
 
 -- ---- all departures
 
-once_draft : (m : ℕ) (t : Table) (o : Option ℕ) → first departing t ≡ o → Draft m t → Draft m (departed t o)
+once_draft : (m : ℕ) (t : Table) (o : Option ℕ) → first departing t ≡ o → Draft m t →
+    Draft m (departed t o)
 unfolding departed
 once_draft m t None e d = d
 once_draft m t (Some k) e d = let f = first_found departing t k e in departed_draft t k f.0 f.1 m d
@@ -297,23 +314,27 @@ once_fewer t k e = let f = first_found departing t k e in departed_count t k f.0
 pub depart_draft : (m n : ℕ) (t : Table) → Draft m t → Draft m (depart n t)
 unfolding depart
 depart_draft m zero t d = d
-depart_draft m (suc n) t d = depart_draft m n (departed t (first departing t)) (once_draft m t (first departing t) refl d)
+depart_draft m (suc n) t d =
+    depart_draft m n (departed t (first departing t)) (once_draft m t (first departing t) refl d)
 
 once_same : {X : Type 0} (g : Session → X) → ((n : ℕ) (s : Session) → g (owed n s) ≡ g s) →
-    ((s : Session) → g (gone s) ≡ g s) → (t : Table) (o : Option ℕ) → first departing t ≡ o → (j : ℕ) →
+    ((s : Session) → g (gone s) ≡ g s) → (t : Table) (o : Option ℕ) → first departing t ≡ o →
+    (j : ℕ) →
     g (at (departed t o) j) ≡ g (at t j)
 unfolding departed
 once_same g h l t None e j = refl
 once_same g h l t (Some k) e j = let f = first_found departing t k e in departed_same t k f.0 f.1 g h l j
 
 pub depart_same : {X : Type 0} (g : Session → X) → ((n : ℕ) (s : Session) → g (owed n s) ≡ g s) →
-    ((s : Session) → g (gone s) ≡ g s) → (n : ℕ) (t : Table) (j : ℕ) → g (at (depart n t) j) ≡ g (at t j)
+    ((s : Session) → g (gone s) ≡ g s) → (n : ℕ) (t : Table) (j : ℕ) →
+    g (at (depart n t) j) ≡ g (at t j)
 unfolding depart
 depart_same g h l zero t j = refl
 depart_same g h l (suc n) t j =
     depart_same g h l n (departed t (first departing t)) j ∙ once_same g h l t (first departing t) refl j
 
-once_total : (g : Session → ℕ) → ((n : ℕ) (s : Session) → g (owed n s) ≡ g s) → ((s : Session) → g (gone s) ≡ g s) →
+once_total : (g : Session → ℕ) → ((n : ℕ) (s : Session) → g (owed n s) ≡ g s) →
+    ((s : Session) → g (gone s) ≡ g s) →
     (t : Table) (o : Option ℕ) → first departing t ≡ o → total g (departed t o) ≡ total g t
 unfolding departed
 once_total g h l t None e = refl
@@ -325,18 +346,21 @@ unfolding depart
 depart_total g h l zero t = refl
 depart_total g h l (suc n) t = depart_total g h l n (departed t (first departing t)) ∙ once_total g h l t (first departing t) refl
 
-once_owes : (t : Table) (o : Option ℕ) → first departing t ≡ o → owing (departed t o) ≤ owing t
+once_owes : (t : Table) (o : Option ℕ) → first departing t ≡ o →
+    total_owed (departed t o) ≤ total_owed t
 unfolding departed
 once_owes t None e = le_refl _
 once_owes t (Some k) e = let f = first_found departing t k e in departed_owes t k f.0 f.1
 
-pub depart_owes : (n : ℕ) (t : Table) → owing (depart n t) ≤ owing t
+pub depart_owes : (n : ℕ) (t : Table) → total_owed (depart n t) ≤ total_owed t
 unfolding depart
 depart_owes zero t = le_refl _
-depart_owes (suc n) t = le_trans (depart_owes n (departed t (first departing t))) (once_owes t (first departing t) refl)
+depart_owes (suc n) t =
+    le_trans (depart_owes n (departed t (first departing t))) (once_owes t (first departing t) refl)
 
 -- a session with a frame keeps its lag or gets more
-once_waits : (t : Table) (o : Option ℕ) → first departing t ≡ o → (j : ℕ) → waiting (at t j) ≡ true →
+once_waits : (t : Table) (o : Option ℕ) → first departing t ≡ o → (j : ℕ) →
+    waiting (at t j) ≡ true →
     (at t j).lag ≤ℤ (at (departed t o) j).lag
 unfolding departed
 once_waits t None e j w = omega (arith, ints)
@@ -349,7 +373,8 @@ once_waits t (Some k) e j w =
 le_transℤ : (a b c : ℤ) → a ≤ℤ b → b ≤ℤ c → a ≤ℤ c
 le_transℤ a b c h k = omega (arith, ints)
 
-pub depart_waits : (n : ℕ) (t : Table) (j : ℕ) → waiting (at t j) ≡ true → (at t j).lag ≤ℤ (at (depart n t) j).lag
+pub depart_waits : (n : ℕ) (t : Table) (j : ℕ) → waiting (at t j) ≡ true →
+    (at t j).lag ≤ℤ (at (depart n t) j).lag
 unfolding depart
 depart_waits zero t j w = omega (arith, ints)
 depart_waits (suc n) t j w =

@@ -1,5 +1,6 @@
 -- What departures do, of any table.
-use Rattle.std.proofs.Common.{◌≡◌, ℕ, zero, suc, ◌+◌, ◌-◌, ◌*◌, ◌/◌, [], ◌∷◌, take, ℤ, pos, ◌+ℤ◌, refl, ap, ◌∙◌, mul-zero, zero-add, arith}
+use Rattle.std.proofs.Common.{◌≡◌, ℕ, zero, suc, ◌+◌, ◌-◌, ◌*◌, ◌/◌, [], ◌∷◌, take, ℤ, pos, ◌+ℤ◌}
+use Rattle.std.proofs.Common.{refl, ap, ◌∙◌, mul-zero, zero-add, arith}
 use native.Mathlib.Nat.{zero-div, sub-zero}
 use lib.IntN.{+ℤ_idr}
 use Rattle.model.specs.Session.{with_lag}

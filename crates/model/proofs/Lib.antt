@@ -16,6 +16,7 @@ pub mod Bounds
 pub mod Queues
 pub mod Books
 pub mod Laws
+pub mod Tellings
 pub mod Histories
 pub mod Further
 pub mod Meant

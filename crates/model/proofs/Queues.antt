@@ -1,13 +1,17 @@
 -- What waited, then what a call brought, is what it took, then what waits.
-use Rattle.std.proofs.Common.{◌≡◌, ℕ, zero, suc, ◌+◌, ◌<◌, ◌≤◌, true, false, cond, eqb, ◌⊎◌, List, [], ◌∷◌, ◌++◌, length, Some, None, Option, sym, refl, ap, ◌∙◌, subst, ap₂, inl, inr, arith}
+use Rattle.std.proofs.Common.{◌≡◌, ℕ, zero, suc, ◌+◌, ◌<◌, ◌≤◌, true, false, cond, eqb, ◌⊎◌, List}
+use Rattle.std.proofs.Common.{[], ◌∷◌, ◌++◌, length, Some, None, Option, sym, refl, ap, ◌∙◌, subst}
+use Rattle.std.proofs.Common.{ap₂, inl, inr, arith}
 use native.Mathlib.Decide.{ℕ_discrete}
-use Rattle.std.proofs.lemmas.Bool.{cond-true, cond-false, eq-eqb, ne_eqb, false≢true, and_parts, cases_lt}
+use Rattle.std.proofs.lemmas.Bool.{cond-true, cond-false, eq-eqb, ne_eqb, false≢true, and_parts}
+use Rattle.std.proofs.lemmas.Bool.{cases_lt}
 use Rattle.std.proofs.lemmas.List.{append-nil}
 use Rattle.tariff.specs.Tariff.{price_of}
 use Rattle.model.specs.Session.{Frame, Session, vacant, fresh, with_good, able, waiting, some_wait}
 use Rattle.model.specs.Table.{Table, at, change, active_count}
-use Rattle.model.specs.Meaning.{Meaning, Lawful}
-use Rattle.model.specs.Turn.{Way, sender, front, rest, length_of, sent_of, charged, sends, hands_on, takes_up, turned}
+use Rattle.chooser.specs.Meaning.{Meaning, Lawful}
+use Rattle.model.specs.Turn.{Way, sender, first_frame, rest, length_of, sent_of, charged, sends}
+use Rattle.model.specs.Turn.{hands_on, takes_up, turned}
 use Rattle.model.specs.Departures.{departures}
 use Rattle.model.specs.Cell.{Cell, settled}
 use Rattle.model.specs.Calls.{Call, arrived, Outcome, decide, turn_after, turn_of, accepted, step}
@@ -21,7 +25,7 @@ use Rattle.model.proofs.Senders.{Rightly, decides}
 use Rattle.model.proofs.Turn.{each_way}
 use Rattle.model.proofs.Cases.{each_case}
 
-front_and_rest : (q : List Frame) → some_wait q ≡ true → q ≡ front q ∷ rest q
+front_and_rest : (q : List Frame) → some_wait q ≡ true → q ≡ first_frame q ∷ rest q
 front_and_rest [] e = absurd (false≢true e)
 front_and_rest (f ∷ q) e = refl
 
@@ -31,7 +35,8 @@ out i t o = sent_from i (sent_of t o) (length_of t o)
 
 -- one place is changed, and its first frame leaves
 takes : (i : ℕ) (t : Table) (q : ℕ) (f : Session → Session) → able (at t q) ≡ true →
-    ((s : Session) → (f s).queue ≡ rest s.queue) → (at t i).queue ≡ out i t (Some q) ++ (at (change t q f) i).queue
+    ((s : Session) → (f s).queue ≡ rest s.queue) →
+    (at t i).queue ≡ out i t (Some q) ++ (at (change t q f) i).queue
 takes i t q f a h = by (ℕ_discrete q i)
   where
     waits : waiting (at t q) ≡ true
@@ -39,15 +44,16 @@ takes i t q f a h = by (ℕ_discrete q i)
 
     at_q : (at t q).queue ≡ out q t (Some q) ++ (at (change t q f) q).queue
     at_q =
-        let b = cond-true (eqb q q) (front (at t q).queue ∷ []) [] (eq-eqb q q refl) in
+        let b = cond-true (eqb q q) (first_frame (at t q).queue ∷ []) [] (eq-eqb q q refl) in
         let c : (at (change t q f) q).queue ≡ rest (at t q).queue =
         ap (λ (s : Session). s.queue) (at_change t q f (able_within t q a)) ∙ h (at t q) in
         front_and_rest (at t q).queue waits ∙ sym (ap₂ (λ (x y : List Frame). x ++ y) b c)
 
     by : Dec (q ≡ i) → (at t i).queue ≡ out i t (Some q) ++ (at (change t q f) i).queue
-    by (yes e) = subst (λ (j : ℕ). (at t j).queue ≡ out j t (Some q) ++ (at (change t q f) j).queue) e at_q
+    by (yes e) =
+        subst (λ (j : ℕ). (at t j).queue ≡ out j t (Some q) ++ (at (change t q f) j).queue) e at_q
     by (no n) =
-        let b = cond-false (eqb q i) (front (at t q).queue ∷ []) [] (ne_eqb q i n) in
+        let b = cond-false (eqb q i) (first_frame (at t q).queue ∷ []) [] (ne_eqb q i n) in
         let c = ap (λ (s : Session). s.queue) (at_other t q i f n) in
         sym (ap₂ (λ (x y : List Frame). x ++ y) b c)
 
@@ -58,7 +64,7 @@ hands i keep n t c q a =
     let u = change t c (hands_on keep n) in
     let b = change_same (λ s. s.queue) t c (hands_on keep n) (λ s. refl) in
     let g = takes i u q (takes_up n) (change_same able t c (hands_on keep n) (λ s. refl) q ∙ a) (λ s. refl) in
-    sym (b i) ∙ g ∙ ap (λ (fs : List Frame). cond (eqb q i) (front fs ∷ []) [] ++ (at (change u q (takes_up n)) i).queue) (b q)
+    sym (b i) ∙ g ∙ ap (λ (fs : List Frame). cond (eqb q i) (first_frame fs ∷ []) [] ++ (at (change u q (takes_up n)) i).queue) (b q)
 
 way_takes : (i keep n : ℕ) (t : Table) (c : ℕ) (w : Way) → Rightly t (at t c) w →
     (at t i).queue ≡ out i t (sender c w) ++ (at (turned keep t c n w) i).queue
@@ -86,7 +92,8 @@ brings i t p g f l h = by (ℕ_discrete p i)
         (at t i).queue ∙ sym (ap (λ (s : Session). s.queue) (at_other t p i f n))
 
 -- a change of one place that leaves its queue
-leaves : (i : ℕ) (t : Table) (p : ℕ) (f : Session → Session) → p < length t → (f (at t p)).queue ≡ (at t p).queue →
+leaves : (i : ℕ) (t : Table) (p : ℕ) (f : Session → Session) → p < length t →
+    (f (at t p)).queue ≡ (at t p).queue →
     (at t i).queue ++ [] ≡ (at (change t p f) i).queue
 leaves i t p f l h = append-nil (at t i).queue ∙ by (ℕ_discrete p i)
   where
@@ -138,12 +145,13 @@ sent_adds : (n : ℕ) (t : Table) (o : Option ℕ) → ((q : ℕ) → o ≡ Some
 unfolding bytes
 sent_adds n t None h = sym (sum_none n (λ i. 0) (λ _ _. refl))
 sent_adds n t (Some q) h =
-    let one = front (at t q).queue ∷ [] in
+    let one = first_frame (at t q).queue ∷ [] in
     sym (sum_one n q (λ i. bytes (out i t (Some q))) (h q refl) (λ i e. ap bytes (cond-false (eqb q i) one [] (ne_eqb q i e)))
     ∙ ap bytes (cond-true (eqb q q) one [] (eq-eqb q q refl)))
 
 -- whoever sends is a place of the table
-pub sender_inside : (t : Table) (c : ℕ) (w : Way) → Rightly t (at t c) w → (q : ℕ) → sender c w ≡ Some q → q < length t
+pub sender_inside : (t : Table) (c : ℕ) (w : Way) → Rightly t (at t c) w → (q : ℕ) →
+    sender c w ≡ Some q → q < length t
 sender_inside t c w r =
     each_way 0 0 t c (λ o _. (q : ℕ) → o ≡ Some q → q < length t)
     (λ _ _ a q e. found c q a e)
@@ -165,7 +173,7 @@ module _ {C : Type 0} (M : Meaning C) (law : Lawful M) where
       (at x.table i).queue ≡ taken_from i (turn_of M x c).answer ++ (at (turn_of M x c).cell.table i).queue
   unfolding turn_after settled departures
   turn_queued x i c s =
-      let w = decide M x c in
+      let w = decide M x.chooser x.table c in
       let u = turned x.keep x.table c (length_of x.table (sender c w)) w in
       way_takes i x.keep (length_of x.table (sender c w)) x.table c w (decides M law x c s)
       ∙ sym (ap (λ (fs : List Frame). out i x.table (sender c w) ++ fs)
@@ -198,8 +206,8 @@ module _ {C : Type 0} (M : Meaning C) (law : Lawful M) where
       (λ _ _ _ _ _. none)
       (λ _ _ _ _ _ _ _ _. none)
       (λ _ _ _ _. none)
-      (λ c e _. sent_adds places x.table (sender c (decide M x c))
-      (λ q f. omega (arith, sender_inside x.table c (decide M x c) (decides M law x c s) q f, s.book.draft.size)))
+      (λ c e _. sent_adds places x.table (sender c (decide M x.chooser x.table c))
+      (λ q f. omega (arith, sender_inside x.table c (decide M x.chooser x.table c) (decides M law x c s) q f, s.book.draft.size)))
       call
     where
       none : 0 ≡ sum_to places (λ i. 0)

@@ -1,5 +1,9 @@
--- A session that is able throughout a stretch gets its share, from what each call does to the accounts.
-use Rattle.std.proofs.Common.{◌≡◌, ℕ, suc, ◌+◌, ◌-◌, ◌*◌, ◌<◌, ◌≤◌, min, Bool, true, false, ◌⊎◌, List, [], ◌∷◌, length, ℤ, pos, negsuc, ◌+ℤ◌, ◌≤ℤ◌, Some, None, Option, sym, refl, ap, ◌∙◌, inl, inr, le_trans, mul-le-mul_right, mul-le-mul_left, zero-mul, arith}
+-- A session that is able throughout a stretch gets its share, from what each call does to the
+-- accounts.
+use Rattle.std.proofs.Common.{◌≡◌, ℕ, suc, ◌+◌, ◌-◌, ◌*◌, ◌<◌, ◌≤◌, min, Bool, true, false, ◌⊎◌}
+use Rattle.std.proofs.Common.{List, [], ◌∷◌, length, ℤ, pos, negsuc, ◌+ℤ◌, ◌≤ℤ◌, Some, None, Option}
+use Rattle.std.proofs.Common.{sym, refl, ap, ◌∙◌, inl, inr, le_trans, mul-le-mul_right}
+use Rattle.std.proofs.Common.{mul-le-mul_left, zero-mul, arith}
 use native.Mathlib.Decide.{ℕ_discrete}
 use Rattle.std.proofs.lemmas.Bool.{cases_lt, and_parts, both_ways, cases_Bool}
 use lib.Signed.{lt_z}
@@ -7,8 +11,8 @@ use borrow.Author.Differences.{ints}
 use Rattle.tariff.specs.Tariff.{link}
 use Rattle.model.specs.Limits.{longest}
 use Rattle.model.specs.Session.{Session, able, waiting, lead, below_zero}
-use Rattle.model.specs.Table.{Table, at, least, sooner}
-use Rattle.model.specs.Meaning.{Meaning}
+use Rattle.model.specs.Table.{Table, at, least_time, sooner}
+use Rattle.chooser.specs.Meaning.{Meaning}
 use Rattle.model.specs.Cell.{Cell}
 use Rattle.model.specs.Calls.{Call, step}
 use Rattle.model.specs.History.{after, sent, sent_by, Always, Able, taken, taken_from, bytes}
@@ -16,20 +20,23 @@ use Rattle.model.proofs.Tables.{at_past, at_le_total, total_but_one, total_but_t
 use Rattle.model.proofs.Ledger.{Row, Book, Move, Ran, excess}
 
 -- ---- the arithmetic at the two ends of a stretch
--- m, n: the mark before and after; v, u: the session's virtual time; x, y: the totals of all excesses; w bytes are sent, b are
--- charged to the session; p is its price, r its rate
+-- m, n: the mark before and after; v, u: the session's virtual time; x, y: the totals of all
+-- excesses; w bytes are sent, b are charged to the session; p is its price, r its rate
 
 -- somebody else has the smallest virtual time at the end
-other_ends : (m n v u x y w b p r : ℕ) → w * link + x + m * link ≤ n * link + y → u ≡ v + p * b → v ≤ m + longest * p →
+other_ends : (m n v u x y w b p r : ℕ) → w * link + x + m * link ≤ n * link + y → u ≡ v + p * b →
+    v ≤ m + longest * p →
     n ≤ u → r ≤ link →
     y ≤ (u - n) * r + 62 * (longest * link) → w ≤ p * b + longest * p + 62 * longest
-other_ends m n v u x y w b p r paid e near ahead few bound = omega (arith, mul-le-mul_left (u - n) few)
+other_ends m n v u x y w b p r paid e near ahead few bound =
+    omega (arith, mul-le-mul_left (u - n) few)
 
 -- the session sends has it
 itself_ends : (m n v u x y w b p r d : ℕ) → w * link + x + m * link ≤ n * link + y → u ≡ v + p * b →
     v ≤ m + longest * p → m ≤ v → n ≡ u → r * p ≡ link → r + d ≡ link →
     (v - m) * r ≤ x → y ≤ 63 * (longest * link) → w ≤ p * b + longest * p + 62 * longest
-itself_ends m n v u x y w b p r d paid e near above same unit few had bound = by (v - m) (omega arith) (omega arith) had
+itself_ends m n v u x y w b p r d paid e near above same unit few had bound =
+    by (v - m) (omega arith) (omega arith) had
   where
     by : (z : ℕ) → v ≡ m + z → z ≤ longest * p → z * r ≤ x → w ≤ p * b + longest * p + 62 * longest
     by z is small had' =
@@ -54,14 +61,15 @@ least_cases true v (Some w) m e = by (cases_lt w v)
     by (inr h) = inl (refl, omega (arith, same))
 
 -- somebody active is at the smallest virtual time
-pub least_reached : (t : Table) (m : ℕ) → least t ≡ Some m →
+pub least_reached : (t : Table) (m : ℕ) → least_time t ≡ Some m →
     (k : ℕ) × (k < length t) × ((at t k).active ≡ true) × ((at t k).virtual_time ≡ m)
-unfolding least at
+unfolding least_time at
 least_reached [] m e = let z : ◌≡◌ {A = ℕ} 0 1 = cc in absurd (omega arith)
-least_reached (s ∷ t) m e = by (least_cases s.active s.virtual_time (least t) m e) (λ h. least_reached t m h)
+least_reached (s ∷ t) m e =
+    by (least_cases s.active s.virtual_time (least_time t) m e) (λ h. least_reached t m h)
   where
-    by : ((s.active ≡ true) × (s.virtual_time ≡ m)) ⊎ (least t ≡ Some m) →
-        (least t ≡ Some m → (k : ℕ) × (k < length t) × ((at t k).active ≡ true) × ((at t k).virtual_time ≡ m)) →
+    by : ((s.active ≡ true) × (s.virtual_time ≡ m)) ⊎ (least_time t ≡ Some m) →
+        (least_time t ≡ Some m → (k : ℕ) × (k < length t) × ((at t k).active ≡ true) × ((at t k).virtual_time ≡ m)) →
         (k : ℕ) × (k < length (s ∷ t)) × ((at (s ∷ t) k).active ≡ true) × ((at (s ∷ t) k).virtual_time ≡ m)
     by (inl h) ih = (0, omega arith, h.0, h.1)
     by (inr h) ih = let r = ih h in (suc r.0, omega (arith, r.1), r.2, r.3)
@@ -109,7 +117,8 @@ excess_none : (m : ℕ) (s : Session) → s.virtual_time ≡ m → excess m s �
 excess_none m s e = let h : s.virtual_time - m ≡ 0 = omega arith in ap (λ (k : ℕ). k * s.rate) h ∙ zero-mul s.rate
 
 -- the session that has the smallest virtual time at the end is another, or it is this one
-pub ends : {C : Type 0} (i : ℕ) (x y : Cell C) (w s b : ℕ) → Book x.mark x.table → Book y.mark y.table →
+pub ends : {C : Type 0} (i : ℕ) (x y : Cell C) (w s b : ℕ) → Book x.mark x.table →
+    Book y.mark y.table →
     able (at x.table i) ≡ true → able (at y.table i) ≡ true → Ran i x y w s b →
     w ≤ (at x.table i).price * b + longest * (at x.table i).price + 62 * longest
 ends i x y w s b f g a a' h = by (least_reached y.table y.mark (g.lowest i act'))
@@ -153,7 +162,8 @@ ends i x y w s b f g a a' h = by (least_reached y.table y.mark (g.lowest i act')
 -- ---- calls one after the other
 
 kept_more : (lx ly : ℤ) (b c s r : ℕ) → (lx +ℤ pos b) ≤ℤ (ly +ℤ pos s) →
-    (b ≤ s) ⊎ ((lt_z lx (pos 0) ≡ true) × (b ≤ s + longest)) → (c ≤ r) ⊎ ((ly +ℤ pos c) ≤ℤ pos (r + longest)) →
+    (b ≤ s) ⊎ ((lt_z lx (pos 0) ≡ true) × (b ≤ s + longest)) →
+    (c ≤ r) ⊎ ((ly +ℤ pos c) ≤ℤ pos (r + longest)) →
     (b + c ≤ s + r) ⊎ ((lx +ℤ pos (b + c)) ≤ℤ pos (s + r + longest))
 kept_more lx ly b c s r l (inl g) (inl k) = inl (omega arith)
 kept_more lx ly b c s r l (inl g) (inr k) = inr (omega (arith, ints))
@@ -163,7 +173,8 @@ kept_more lx ly b c s r l (inr g) (inr k) = inr (omega (arith, ints))
 ran_none : {C : Type 0} (i : ℕ) (x : Cell C) → Ran i x x 0 0 0
 ran_none i x = record { paid = omega arith; price = refl; time = omega arith; kept = inl (omega arith) }
 
-ran_more : {C : Type 0} (i : ℕ) (x y z : Cell C) (w s b w' s' b' : ℕ) → Move i x y w s b → Ran i y z w' s' b' →
+ran_more : {C : Type 0} (i : ℕ) (x y z : Cell C) (w s b w' s' b' : ℕ) → Move i x y w s b →
+    Ran i y z w' s' b' →
     Ran i x z (w + w') (s + s') (b + b')
 ran_more i x y z w s b w' s' b' m r = record {
   paid = omega (arith, m.paid, r.paid);
@@ -172,13 +183,14 @@ ran_more i x y z w s b w' s' b' m r = record {
   kept = kept_more (at x.table i).lag (at y.table i).lag b b' s s' m.lag m.given r.kept;
 }
 
-charged_within : (l : ℤ) (b s : ℕ) → (b ≤ s) ⊎ ((l +ℤ pos b) ≤ℤ pos (s + longest)) → b ≤ s + below_zero l + longest
+charged_within : (l : ℤ) (b s : ℕ) → (b ≤ s) ⊎ ((l +ℤ pos b) ≤ℤ pos (s + longest)) →
+    b ≤ s + below_zero l + longest
 charged_within l b s (inl h) = omega arith
 charged_within (pos n) b s (inr h) = omega (arith, ints)
 charged_within (negsuc n) b s (inr h) = omega (arith, ints)
 
--- `Fine` is whatever holds of a cell between calls: the accounts are in order, and each call keeps it and moves the accounts as
--- `Move` says
+-- `Fine` is whatever holds of a cell between calls: the accounts are in order, and each call keeps
+-- it and moves the accounts as `Move` says
 module _ {C : Type 0} (M : Meaning C) (Fine : Cell C → Type 0)
     (book : (x : Cell C) → Fine x → Book x.mark x.table)
     (stays : (x : Cell C) (k : Call) → Fine x → Fine (step M x k).cell)
@@ -194,7 +206,8 @@ module _ {C : Type 0} (M : Meaning C) (Fine : Cell C → Type 0)
   first_able i x [] a = a
   first_able i x (k ∷ ks) a = a.0
 
-  last_of : (i : ℕ) (x : Cell C) (ks : List Call) → Always M (Able M i) x ks → Able M i (after M x ks)
+  last_of : (i : ℕ) (x : Cell C) (ks : List Call) → Always M (Able M i) x ks →
+      Able M i (after M x ks)
   unfolding Always after
   last_of i x [] a = a
   last_of i x (k ∷ ks) a = last_of i (step M x k).cell ks a.1

@@ -1,21 +1,27 @@
--- What one turn leaves in the accounts before departures: the chosen session is charged, and if it hands its turn on, another is
--- repaid what the chosen is owed.
-use Rattle.std.proofs.Common.{◌≡◌, ℕ, ◌+◌, ◌-◌, ◌*◌, ◌<◌, ◌≤◌, true, false, cond, eqb, ◌⊎◌, List, [], ◌∷◌, length, ℤ, pos, negsuc, ◌+ℤ◌, ◌-ℤ◌, ◌≤ℤ◌, Some, None, Option, sym, refl, ap, ◌∙◌, subst, ap₂, inl, inr, le_trans, le_refl, mul-le-mul_right, arith}
+-- What one turn leaves in the accounts before departures: the chosen session is charged, and if it
+-- hands its turn on, another is repaid what the chosen is owed.
+use Rattle.std.proofs.Common.{◌≡◌, ℕ, ◌+◌, ◌-◌, ◌*◌, ◌<◌, ◌≤◌, true, false, cond, eqb, ◌⊎◌, List}
+use Rattle.std.proofs.Common.{[], ◌∷◌, length, ℤ, pos, negsuc, ◌+ℤ◌, ◌-ℤ◌, ◌≤ℤ◌, Some, None, Option}
+use Rattle.std.proofs.Common.{sym, refl, ap, ◌∙◌, subst, ap₂, inl, inr, le_trans, le_refl}
+use Rattle.std.proofs.Common.{mul-le-mul_right, arith}
 use native.Mathlib.Decide.{ℕ_discrete}
 use lib.Signed.{lt_z}
 use borrow.Author.Differences.{ints}
-use Rattle.std.proofs.lemmas.Bool.{both_ways, false≢true, and_parts, cond-true, cond-false, eq-eqb, ne_eqb}
+use Rattle.std.proofs.lemmas.Bool.{both_ways, false≢true, and_parts, cond-true, cond-false, eq-eqb}
+use Rattle.std.proofs.lemmas.Bool.{ne_eqb}
 use Rattle.std.specs.List.{AllByRecursion}
 use Rattle.tariff.specs.Tariff.{link}
 use Rattle.model.specs.Limits.{longest, quarters}
 use Rattle.model.specs.Session.{Frame, Session, able, waiting, some_wait, leads, lags, above_zero}
-use Rattle.model.specs.Table.{Table, at, change, total}
-use Rattle.model.specs.Turn.{Way, by_right, by_allowance, by_credit, unclaimed, by_extra, idle, sender, front, rest}
+use Rattle.model.specs.Table.{Table, at, change, total, total_owed}
+use Rattle.model.specs.Turn.{Way, by_right, by_allowance, by_credit, unclaimed, by_extra, idle}
+use Rattle.model.specs.Turn.{sender, first_frame, rest}
 use Rattle.model.specs.Turn.{length_of, charged, sends, hands_on, takes_up, turned}
 use Rattle.model.specs.Sound.{Fits}
-use Rattle.model.proofs.Tables.{length_change, at_change, at_other, total_change, total_same, totalℤ_change}
+use Rattle.model.proofs.Tables.{length_change, at_change, at_other, total_change, total_same}
+use Rattle.model.proofs.Tables.{totalℤ_change}
 use Rattle.model.proofs.Tables.{totalℤ_same, change_same, total_change_le, each_change}
-use Rattle.model.proofs.Ledger.{Row, Draft, excess, owing}
+use Rattle.model.proofs.Ledger.{Row, Draft, excess}
 use Rattle.model.proofs.Senders.{Rightly, Chosen}
 use Rattle.model.proofs.Share.{active_booked, able_active, able_within}
 use Rattle.model.proofs.Departures.{owed_more}
@@ -87,7 +93,8 @@ apart_credit t c q r e =
     (r.2 (subst (λ (j : ℕ). able (at t j) ≡ true) (sym e) r.0))
 
 pub apart_extra : (t : Table) (c q : ℕ) → Rightly t (at t c) (by_extra q) → c ≡ q → ⊥
-apart_extra t c q r e = both_ways (able (at t c)) r.1 (subst (λ (j : ℕ). able (at t j) ≡ true) (sym e) r.0)
+apart_extra t c q r e =
+    both_ways (able (at t c)) r.1 (subst (λ (j : ℕ). able (at t j) ≡ true) (sym e) r.0)
 
 -- a chosen session that hands its turn on, and the sender
 pub record Handed (t : Table) (c q : ℕ) : Type 0 where
@@ -109,20 +116,25 @@ module _ (keep n : ℕ) (t : Table) (c : ℕ) (P : Option ℕ → Table → Type
   each_way idle r = idles r
 
 -- no frame that is sent is longer than the longest
-front_fits : (q : List Frame) → some_wait q ≡ true → AllByRecursion Fits q → (front q).length ≤ longest
+front_fits : (q : List Frame) → some_wait q ≡ true → AllByRecursion Fits q →
+    (first_frame q).length ≤ longest
 front_fits [] e a = absurd (false≢true e)
 front_fits (f ∷ q) e a = a.0.1
 
-able_fits : (m : ℕ) (t : Table) (q : ℕ) → Draft m t → able (at t q) ≡ true → length_of t (Some q) ≤ longest
-able_fits m t q d a = front_fits (at t q).queue (and_parts (waiting (at t q)) (at t q).good a).0 (d.rows q).frames
+able_fits : (m : ℕ) (t : Table) (q : ℕ) → Draft m t → able (at t q) ≡ true →
+    length_of t (Some q) ≤ longest
+able_fits m t q d a =
+    front_fits (at t q).queue (and_parts (waiting (at t q)) (at t q).good a).0 (d.rows q).frames
 
-pub way_fits : (m : ℕ) (t : Table) (c : ℕ) (w : Way) → Draft m t → Rightly t (at t c) w → length_of t (sender c w) ≤ longest
+pub way_fits : (m : ℕ) (t : Table) (c : ℕ) (w : Way) → Draft m t → Rightly t (at t c) w →
+    length_of t (sender c w) ≤ longest
 way_fits m t c w d r =
     each_way 0 0 t c (λ o _. length_of t o ≤ longest) (λ _ _ a. able_fits m t c d a) (λ q h. able_fits m t q d h.ready) (λ _. omega arith) w r
 
 -- ---- one place charged
 
-row_charged : (m n : ℕ) (s : Session) (f : Session → Session) → Charges n f → n ≤ longest → s.active ≡ true → s.virtual_time ≡ m →
+row_charged : (m n : ℕ) (s : Session) (f : Session → Session) → Charges n f → n ≤ longest →
+    s.active ≡ true → s.virtual_time ≡ m →
     Row m s → Row m (f s)
 row_charged m n s f h l a v r = record {
   priced = λ b. ap₂ (λ (x y : ℕ). x * y) (h.rate s) (h.price s) ∙ r.priced (active_booked m s r a);
@@ -200,7 +212,8 @@ module _ (keep m n : ℕ) (t : Table) (c q : ℕ) (k : Chosen m t c) (p : Handed
         omega (arith, ints);
   }
 
-  pair_pays : Draft m t → total (excess m) (change given q (takes_up n)) ≡ total (excess m) t + n * link
+  pair_pays : Draft m t →
+      total (excess m) (change given q (takes_up n)) ≡ total (excess m) t + n * link
   pair_pays d = total_same (excess m) given q (takes_up n) refl ∙ solo_pays m n t c (hands_on keep n) k (hands_charges keep n) d
 
 -- ---- what all lagging sessions together are owed: one frame more at the most
@@ -213,10 +226,13 @@ owed_less z n = by (z -ℤ pos n) z refl
     by (pos k) (negsuc a) e = omega (arith, ints)
     by (negsuc k) z e = omega arith
 
-solo_owes : (n : ℕ) (t : Table) (c : ℕ) (f : Session → Session) → SameLag f → owing (change t c f) ≤ owing t + n
-solo_owes n t c f g = omega (arith, total_same (λ s. above_zero s.lag) t c f (ap above_zero (g (at t c))))
+solo_owes : (n : ℕ) (t : Table) (c : ℕ) (f : Session → Session) → SameLag f →
+    total_owed (change t c f) ≤ total_owed t + n
+solo_owes n t c f g =
+    omega (arith, total_same (λ s. above_zero s.lag) t c f (ap above_zero (g (at t c))))
 
-pair_owes : (keep n : ℕ) (t : Table) (c q : ℕ) → owing (change (change t c (hands_on keep n)) q (takes_up n)) ≤ owing t + n
+pair_owes : (keep n : ℕ) (t : Table) (c q : ℕ) →
+    total_owed (change (change t c (hands_on keep n)) q (takes_up n)) ≤ total_owed t + n
 pair_owes keep n t c q =
     let u = change t c (hands_on keep n) in
     let a = total_change_le (λ s. above_zero s.lag) n t c (hands_on keep n) (owed_more (at t c).lag n) in
@@ -264,7 +280,8 @@ solo_part i m n keep spent t c k = by (ℕ_discrete c i)
         )
     by (no e) = (0, part_none i t v _ (at_other t c i (sends keep spent n) e))
 
-pair_part : (i keep m n : ℕ) (t : Table) (c q : ℕ) → Chosen m t c → Handed t c q → n ≤ longest → able (at t i) ≡ true →
+pair_part : (i keep m n : ℕ) (t : Table) (c q : ℕ) → Chosen m t c → Handed t c q → n ≤ longest →
+    able (at t i) ≡ true →
     (b : ℕ) × Part i t (change (change t c (hands_on keep n)) q (takes_up n)) (named i n (Some q)) b
 pair_part i keep m n t c q k p l a = by (ℕ_discrete c i) (ℕ_discrete q i)
   where
@@ -308,7 +325,8 @@ pair_part i keep m n t c q k p l a = by (ℕ_discrete c i) (ℕ_discrete q i)
             given = inl (omega arith);
           },
         )
-    by (no e) (no f) = (0, part_none i t v _ (at_other u q i (takes_up n) f ∙ at_other t c i (hands_on keep n) e))
+    by (no e) (no f) =
+        (0, part_none i t v _ (at_other u q i (takes_up n) f ∙ at_other t c i (hands_on keep n) e))
 
 -- ---- every way
 
@@ -327,24 +345,27 @@ module _ (keep m n : ℕ) (t : Table) (c : ℕ) (w : Way) (k : Chosen m t c) (r 
       (λ q h. pair_pays keep m n t c q k h d)
       (λ _. solo_pays m n t c (charged keep 0 n) k (charged_charges keep 0 n) d) w r
 
-  pub way_owes : owing (turned keep t c n w) ≤ owing t + n
+  pub way_owes : total_owed (turned keep t c n w) ≤ total_owed t + n
   way_owes =
-      each_way keep n t c (λ _ v. owing v ≤ owing t + n)
+      each_way keep n t c (λ _ v. total_owed v ≤ total_owed t + n)
       (λ p _ _. solo_owes n t c (sends keep p n) (λ s. refl))
       (λ q _. pair_owes keep n t c q)
       (λ _. solo_owes n t c (charged keep 0 n) (λ s. refl)) w r
 
   -- what neither a charge nor a payment changes: status and price
-  pub way_same : {X : Type 0} (g : Session → X) → ((p : ℕ) (s : Session) → g (sends keep p n s) ≡ g s) →
+  pub way_same : {X : Type 0} (g : Session → X) →
+      ((p : ℕ) (s : Session) → g (sends keep p n s) ≡ g s) →
       ((s : Session) → g (hands_on keep n s) ≡ g s) → ((s : Session) → g (takes_up n s) ≡ g s) →
-      ((s : Session) → g (charged keep 0 n s) ≡ g s) → (j : ℕ) → g (at (turned keep t c n w) j) ≡ g (at t j)
+      ((s : Session) → g (charged keep 0 n s) ≡ g s) → (j : ℕ) →
+      g (at (turned keep t c n w) j) ≡ g (at t j)
   way_same g a b d e j =
       each_way keep n t c (λ _ v. g (at v j) ≡ g (at t j))
       (λ p _ _. change_same g t c (sends keep p n) (a p) j)
       (λ q _. change_same g (change t c (hands_on keep n)) q (takes_up n) d j ∙ change_same g t c (hands_on keep n) b j)
       (λ _. change_same g t c (charged keep 0 n) e j) w r
 
-  pub way_part : (i : ℕ) → n ≤ longest → able (at t i) ≡ true → (b : ℕ) × Part i t (turned keep t c n w) (named i n (sender c w)) b
+  pub way_part : (i : ℕ) → n ≤ longest → able (at t i) ≡ true →
+      (b : ℕ) × Part i t (turned keep t c n w) (named i n (sender c w)) b
   way_part i l a =
       each_way keep n t c (λ o v. (b : ℕ) × Part i t v (named i n o) b)
       (λ p _ _. solo_part i m n keep p t c k)

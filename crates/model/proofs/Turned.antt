@@ -5,13 +5,14 @@ use Rattle.std.proofs.lemmas.Bool.{and_parts}
 use Rattle.tariff.specs.Tariff.{link}
 use Rattle.model.specs.Limits.{longest}
 use Rattle.model.specs.Session.{Session, able, waiting}
-use Rattle.model.specs.Table.{Table, at, total, active_count}
+use Rattle.model.specs.Table.{Table, at, total, active_count, total_owed}
 use Rattle.model.specs.Turn.{Way, sender, turned, owed}
 use Rattle.model.specs.Departures.{departures, gone}
 use Rattle.model.specs.Cell.{mark_after}
-use Rattle.model.proofs.Ledger.{Draft, Book, excess, owing}
+use Rattle.model.proofs.Ledger.{Draft, Book, excess}
 use Rattle.model.proofs.Settle.{Held, settle, mark_rises, mark_pays}
-use Rattle.model.proofs.Departures.{depart_draft, depart_same, depart_total, depart_waits, depart_owes, departures_busy}
+use Rattle.model.proofs.Departures.{depart_draft, depart_same, depart_total, depart_waits}
+use Rattle.model.proofs.Departures.{depart_owes, departures_busy}
 use Rattle.model.proofs.Senders.{Rightly, Chosen}
 use Rattle.model.proofs.Turn.{way_draft, way_pays, way_owes, way_same, Part, named, way_part}
 
@@ -46,7 +47,7 @@ module _ (keep m : ℕ) (t : Table) (c : ℕ) (w : Way) (n : ℕ) (b : Book m t)
       depart_total (excess m) (λ n s. refl) (λ s. refl) (active_count (turned keep t c n w)) (turned keep t c n w)
       ∙ way_pays keep m n t c w k r b.draft
 
-  pub turn_owes : owing end ≤ owing t + n
+  pub turn_owes : total_owed end ≤ total_owed t + n
   unfolding departures
   turn_owes = le_trans (depart_owes (active_count (turned keep t c n w)) (turned keep t c n w)) (way_owes keep m n t c w k r)
 

@@ -1,18 +1,23 @@
 -- The calls: what refuses each, what an accepted one answers, and the cell that it leaves.
-use Rattle.std.specs.Prelude.{ℕ, ◌+◌, max, Bool, true, cond, not, ◌||◌, List, [], ◌∷◌, ◌++◌, length, Some, None, Ok, Err, Option, Result, ◌==◌, nat_le, nat_lt}
+use Rattle.std.specs.Prelude.{ℕ, ◌+◌, max, Bool, true, if◌then◌else◌, not, ◌||◌, List, [], ◌∷◌}
+use Rattle.std.specs.Prelude.{◌++◌, length, Some, None, Ok, Err, Option, Result, unwrap_or, ◌==◌}
+use Rattle.std.specs.Prelude.{nat_le, nat_lt}
 use Rattle.answer.specs.declared.refusal.Refusal.{Refusal}
-use Rattle.answer.specs.declared.refusal.Refusal.TheVariants.{PlaceTooHigh, PlaceOpen, PlaceNotOpen, RateNotInTariff}
-use Rattle.answer.specs.declared.refusal.Refusal.TheVariants.{LinkOverbooked}
-use Rattle.answer.specs.declared.refusal.Refusal.TheVariants.{SessionActive, AheadOfMark, LengthOutOfRange, QueueFull}
+use Rattle.answer.specs.declared.refusal.Refusal.TheVariants.{PlaceTooHigh, PlaceOpen, PlaceNotOpen}
+use Rattle.answer.specs.declared.refusal.Refusal.TheVariants.{RateNotInTariff, LinkOverbooked}
+use Rattle.answer.specs.declared.refusal.Refusal.TheVariants.{SessionActive, AheadOfMark}
+use Rattle.answer.specs.declared.refusal.Refusal.TheVariants.{LengthOutOfRange, QueueFull}
 use Rattle.answer.specs.declared.refusal.Refusal.TheVariants.{NoneActive, TurnsUsedUp, KeepTooHigh}
 use Rattle.answer.specs.declared.turn.Answer.{Answer}
 use Rattle.answer.specs.declared.turn.Answer.TheVariants.{Done, Turn as Turned}
 use Rattle.tariff.specs.Tariff.{link, in_tariff, price_of}
 use Rattle.model.specs.Limits.{places, longest, most_waiting, most_turns, quarters}
-use Rattle.model.specs.Session.{Frame, Session, vacant, fresh, with_virtual_time, with_good, with_active, with_queue}
-use Rattle.model.specs.Table.{at, change, vacancies, booked_total, none_active, chosen}
-use Rattle.model.specs.Lists.{Credit, Extra, offer}
-use Rattle.model.specs.Meaning.{Meaning}
+use Rattle.model.specs.Session.{Frame, Session, vacant, fresh, with_virtual_time, with_good}
+use Rattle.model.specs.Session.{with_active, with_queue}
+use Rattle.model.specs.Table.{Table, at, change, vacancies, booked_total, none_active, chosen}
+use Rattle.model.specs.Lists.{Credit, Extra, picked_from}
+use Rattle.chooser.specs.Meaning.{Meaning}
+use Rattle.chooser.specs.Tellings.{Telling, served, cleared}
 use Rattle.model.specs.Turn.{Way, by_right, by_allowance, by_credit, unclaimed, by_extra, idle}
 use Rattle.model.specs.Turn.{way_of, sender, length_of, answer_of, turned}
 use Rattle.model.specs.Departures.{departures}
@@ -30,7 +35,7 @@ pub data Call : Type 0 where
 -- the first refusal whose condition holds
 abbrev pub first_refusal : List (Bool × Refusal) → Option Refusal
 first_refusal [] = None
-first_refusal (c ∷ cs) = cond c.0 (Some c.1) (first_refusal cs)
+first_refusal (c ∷ cs) = if c.0 then Some c.1 else first_refusal cs
 
 -- what refuses every call on a place that is not open, before anything else is looked at
 abbrev pub on_open_place : {C : Type 0} → Cell C → ℕ → List (Bool × Refusal) → List (Bool × Refusal)
@@ -61,67 +66,73 @@ refusals x turn =
 abbrev pub refusal : {C : Type 0} → Cell C → Call → Option Refusal
 refusal x call = first_refusal (refusals x call)
 
--- a question about a place: what is known of it
-abbrev pub known : Option Refusal → Session → Result Session Refusal
-known None s = Ok s
-known (Some why) s = Err why
+-- x, unless something is refused
+abbrev pub unless : {X : Type 0} → Option Refusal → X → Result X Refusal
+unless None x = Ok x
+unless (Some why) x = Err why
 
+-- a question about a place: how its session stands
 abbrev pub asked : {C : Type 0} → Cell C → ℕ → Result Session Refusal
-asked x place = known (first_refusal (on_open_place x place [])) (at x.table place)
+asked x place = unless (first_refusal (on_open_place x place [])) (at x.table place)
 
 -- ---- what an accepted call leaves and answers
 
 -- a frame queued; an inactive session becomes active, at the mark or above it
 abbrev pub arrived : ℕ → Frame → Session → Session
 arrived mark f s =
-    with_virtual_time (cond s.active s.virtual_time (max s.virtual_time mark))
+    with_virtual_time (if s.active then s.virtual_time else max s.virtual_time mark)
     (with_active true (with_queue (s.queue ++ f ∷ []) s))
 
--- the place found; none stands for 0 here, since a turn without an active session is refused
-abbrev pub found : Option ℕ → ℕ
-found None = 0
-found (Some c) = c
+-- what the chooser is told of who was served n bytes in another's turn, t being the table before it
+abbrev pub served_in : Table → Way → ℕ → List Telling
+served_in t by_right n = []
+served_in t by_allowance n = []
+served_in t (by_credit q) n = served Credit q n (at t q).price ∷ []
+served_in t unclaimed n = []
+served_in t (by_extra q) n = served Extra q n (at t q).price ∷ []
+served_in t idle n = []
 
 module _ {C : Type 0} (M : Meaning C) where
   pub record Outcome : Type 0 where
     pub cell : Cell C
     pub answer : Result Answer Refusal
 
-  -- one place is changed, the chooser becoming c before it hears of joins
-  abbrev pub changed : Cell C → ℕ → (Session → Session) → C → Outcome
-  changed x place f c = record { cell = settled M x (change x.table place f) x.turns c; answer = Ok Done }
+  -- one place is changed, the chooser being told ts before it is told of joins
+  abbrev pub changed : Cell C → ℕ → (Session → Session) → List Telling → Outcome
+  changed x place f ts = record {
+    cell = settled M x (change x.table place f) x.turns ts;
+    answer = Ok Done;
+  }
 
-  -- how the turn of the chosen place c goes
-  abbrev pub decide : Cell C → ℕ → Way
-  decide x c =
-      way_of (at x.table c)
-      (M.pick x.chooser Credit (offer Credit x.table))
-      (M.pick x.chooser Extra (offer Extra x.table))
+  -- how the turn of session s goes, and that of place k, in a table with a chooser
+  abbrev pub way_in : C → Table → Session → Way
+  way_in c t s = way_of s (picked_from M c Credit t) (picked_from M c Extra t)
 
-  -- the chooser hears who was served in another's turn
-  abbrev pub heard : Cell C → Way → ℕ → C
-  heard x by_right n = x.chooser
-  heard x by_allowance n = x.chooser
-  heard x (by_credit q) n = M.served x.chooser Credit q n (at x.table q).price
-  heard x unclaimed n = x.chooser
-  heard x (by_extra q) n = M.served x.chooser Extra q n (at x.table q).price
-  heard x idle n = x.chooser
+  abbrev pub decide : C → Table → ℕ → Way
+  decide c t k = way_in c t (at t k)
 
   -- a turn of n bytes
   unfoldable pub turn_after : Cell C → ℕ → Way → ℕ → Cell C
-  turn_after x c w n = settled M x (departures (turned x.keep x.table c n w)) (x.turns + 1) (heard x w n)
+  turn_after x c w n =
+      settled M x (departures (turned x.keep x.table c n w)) (x.turns + 1) (served_in x.table w n)
 
   abbrev pub turn_of : Cell C → ℕ → Outcome
   turn_of x c =
-      let w = decide x c in
-      record { cell = turn_after x c w (length_of x.table (sender c w)); answer = Ok (Turned (answer_of x.table c w)) }
+      let w = decide x.chooser x.table c in
+      record {
+        cell = turn_after x c w (length_of x.table (sender c w));
+        answer = Ok (Turned (answer_of x.table c w));
+      }
 
   unfoldable pub accepted : Cell C → Call → Outcome
-  accepted x (opening place rate) = changed x place (λ s. fresh rate (price_of rate)) (M.cleared x.chooser place)
-  accepted x (closing place) = changed x place (λ s. vacant) x.chooser
-  accepted x (arrival place tag bytes) = changed x place (arrived x.mark (record { tag = tag; length = bytes })) x.chooser
-  accepted x (report place good) = changed x place (with_good good) x.chooser
-  accepted x turn = turn_of x (found (chosen x.table))
+  accepted x (opening place rate) =
+      changed x place (λ s. fresh rate (price_of rate)) (cleared place ∷ [])
+  accepted x (closing place) = changed x place (λ s. vacant) []
+  accepted x (arrival place tag bytes) =
+      changed x place (arrived x.mark (record { tag = tag; length = bytes })) []
+  accepted x (report place good) = changed x place (with_good good) []
+  -- somebody is chosen, since a turn is refused while nobody is active
+  accepted x turn = turn_of x (unwrap_or (chosen x.table) 0)
 
   -- a refused call changes nothing
   abbrev pub outcome : Cell C → Call → Option Refusal → Outcome
@@ -132,10 +143,18 @@ module _ {C : Type 0} (M : Meaning C) where
   unfoldable pub step : Cell C → Call → Outcome
   step x call = outcome x call (refusal x call)
 
+  -- what it answers, and the cell that it leaves
+  abbrev pub answer_to : Cell C → Call → Result Answer Refusal
+  answer_to x call = (step x call).answer
+
+  abbrev pub cell_after : Cell C → Call → Cell C
+  cell_after x call = (step x call).cell
+
 -- ---- a new cell
 
 abbrev pub new : {C : Type 0} → ℕ → C → Cell C
-new keep chooser = record { keep = keep; mark = 0; turns = 0; table = vacancies places; chooser = chooser }
+new keep chooser =
+    record { keep = keep; mark = 0; turns = 0; table = vacancies places; chooser = chooser }
 
 abbrev pub make : {C : Type 0} → ℕ → C → Result (Cell C) Refusal
-make keep chooser = cond (nat_le keep quarters) (Ok (new keep chooser)) (Err KeepTooHigh)
+make keep chooser = if nat_le keep quarters then Ok (new keep chooser) else Err KeepTooHigh

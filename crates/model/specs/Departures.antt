@@ -1,7 +1,9 @@
--- Departures. An active session that has no frame and does not lead departs, the lowest place first. What it was still owed
--- goes to the sessions that are left active, by their rates: those up to a place have together the floor of their part, so
--- that no byte is lost. Whose lead such a share ends departs too, if it has no frame.
-use Rattle.std.specs.Prelude.{ℕ, zero, suc, ◌+◌, ◌-◌, ◌*◌, ◌/◌, Bool, false, cond, not, ◌&&◌, [], ◌∷◌, pos, Some, None, Option}
+-- Departures. An active session that has no frame and does not lead departs, the lowest place
+-- first. What it was still owed goes to the sessions that are left active, by their rates: those up
+-- to a place have together the floor of their part, so that no byte is lost. Whose lead such a
+-- share ends departs too, if it has no frame.
+use Rattle.std.specs.Prelude.{ℕ, zero, suc, ◌+◌, ◌-◌, ◌*◌, ◌/◌, Bool, false, if◌then◌else◌, not}
+use Rattle.std.specs.Prelude.{◌&&◌, [], ◌∷◌, pos, Some, None, Option}
 use Rattle.model.specs.Session.{Session, waiting, leads, above_zero, with_lag, with_active}
 use Rattle.model.specs.Table.{Table, at, change, total, first, active_count}
 use Rattle.model.specs.Turn.{owed}
@@ -14,16 +16,18 @@ gone s = with_active false (with_lag (pos 0) s)
 
 -- the rate by which a session shares; one that is not active has no share
 abbrev pub active_rate : Session → ℕ
-active_rate s = cond s.active s.rate 0
+active_rate s = if s.active then s.rate else 0
 
--- of a lag shared over rates that add up to r, what the places whose rates add up to c have together
+-- of a lag shared over rates that add up to r, what the places whose rates add up to c have
+-- together
 abbrev pub part : ℕ → ℕ → ℕ → ℕ
 part lag r c = lag * c / r
 
 -- a lag shared over the places of a table, those before it having rates that add up to c
 unfoldable pub share : ℕ → ℕ → ℕ → Table → Table
 share lag r c [] = []
-share lag r c (s ∷ t) = owed (part lag r (c + active_rate s) - part lag r c) s ∷ share lag r (c + active_rate s) t
+share lag r c (s ∷ t) =
+    owed (part lag r (c + active_rate s) - part lag r c) s ∷ share lag r (c + active_rate s) t
 
 -- one departure, of the place found
 unfoldable pub departed : Table → Option ℕ → Table

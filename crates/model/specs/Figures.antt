@@ -1,21 +1,14 @@
 -- Worked figures, computed from the definitions.
-use Rattle.std.specs.Prelude.{◌≡◌, ℕ, true, List, [], ◌∷◌, map, replicate, ℤ, pos, Ok, Err, Result}
-use Rattle.answer.specs.Numbers.{number_of}
-use Rattle.answer.specs.declared.refusal.Refusal.{Refusal}
-use Rattle.answer.specs.declared.turn.Answer.{Answer}
+use Rattle.std.specs.Prelude.{◌≡◌, ℕ, true, List, [], ◌∷◌, map, replicate, ℤ, pos}
+use Rattle.answer.specs.Numbers.{refusal_number}
 use Rattle.tariff.specs.Tariff.{price_of}
 use Rattle.model.specs.Session.{Session, fresh, with_active}
 use Rattle.model.specs.Table.{Table, total}
-use Rattle.model.specs.Meaning.{Meaning}
+use Rattle.chooser.specs.Meaning.{Meaning}
 use Rattle.model.specs.Departures.{active_rate, share}
-use Rattle.model.specs.Calls.{Call, opening, closing, arrival, turn, step, new}
+use Rattle.model.specs.Calls.{Call, opening, closing, arrival, turn, answer_to, new}
 use Rattle.model.specs.History.{after}
 use Rattle.model.specs.Promises.{most_sent}
-
--- the number of a refusal, and 0 of an answer
-abbrev pub number : Result Answer Refusal → ℕ
-number (Ok a) = 0
-number (Err why) = number_of why
 
 -- active sessions of these rates, that are owed nothing
 abbrev pub sharers : List ℕ → Table
@@ -23,13 +16,15 @@ sharers rates = map (λ (r : ℕ). with_active true (fresh r (price_of r))) rate
 
 -- what each is owed when a lag is shared over them
 abbrev pub shares_of : ℕ → List ℕ → List ℤ
-shares_of lag rates = map (λ (s : Session). s.lag) (share lag (total active_rate (sharers rates)) 0 (sharers rates))
+shares_of lag rates =
+    let t : Table = sharers rates in
+    map (λ (s : Session). s.lag) (share lag (total active_rate t) 0 t)
 
 -- of a new cell with any keep, and any chooser in any state
 module _ {C : Type 0} (M : Meaning C) (keep : ℕ) (c : C) where
-  -- the refusal of a call after some others, by its number
+  -- the refusal of a call after some others, by its number, and 0 of an answer
   abbrev pub gives : List Call → Call → ℕ
-  gives before call = number (step M (after M (new keep c) before) call).answer
+  gives before call = refusal_number (answer_to M (after M (new keep c) before) call)
 
   pub record Worked : Type 0 where
     pub rate_7 : price_of 7 ≡ 102960
@@ -45,8 +40,13 @@ module _ {C : Type 0} (M : Meaning C) (keep : ℕ) (c : C) where
     pub ten_bytes : shares_of 10 (240240 ∷ 120120 ∷ 120120 ∷ []) ≡ pos 5 ∷ pos 2 ∷ pos 3 ∷ []
     pub one_byte : shares_of 1 (360360 ∷ 360360 ∷ []) ≡ pos 0 ∷ pos 1 ∷ []
     pub price_2 : most_sent 2 0 0 ≡ 101376
-    -- two sessions wait at virtual time 0; the only frame of place 0 goes, and it is then ahead of the mark
-    pub too_early : gives (opening 0 360360 ∷ opening 1 360360 ∷ arrival 0 7 100 ∷ arrival 1 8 100 ∷ turn ∷ []) (closing 0) ≡ 11
+    -- two sessions wait at virtual time 0; the only frame of place 0 goes, and it is then ahead of
+    -- the mark
+    pub too_early :
+        gives
+        (opening 0 360360 ∷ opening 1 360360 ∷ arrival 0 7 100 ∷ arrival 1 8 100 ∷ turn ∷ [])
+        (closing 0)
+        ≡ 11
 
 abbrev pub FiguresStand : {C : Type 0} → Meaning C → Type 0
 FiguresStand {C} M = (keep : ℕ) (c : C) → Worked M keep c

@@ -3,13 +3,15 @@ use Rattle.std.specs.Prelude.{◌≡◌, ℕ, ◌*◌, ◌/◌, ◌<◌, false, 
 use Rattle.model.specs.Table.{Table, at, change, total, totalℤ, first}
 use Rattle.model.specs.Departures.{departing, gone, active_rate, share, departed, departures}
 
--- A lag that is shared while somebody is active is handed out whole: no byte is lost, and none is made.
+-- A lag that is shared while somebody is active is handed out whole: no byte is lost, and none is
+-- made.
 abbrev pub HandsOutAll : Type 0
 HandsOutAll =
     (lag : ℕ) (t : Table) → 0 < total active_rate t →
     totalℤ (λ s. s.lag) (share lag (total active_rate t) 0 t) ≡ totalℤ (λ s. s.lag) t +ℤ pos lag
 
--- Of a lag shared over rates that add up to r, the first n places have together the floor of lag times their rates over r.
+-- Of a lag shared over rates that add up to r, the first n places have together the floor of lag
+-- times their rates over r.
 abbrev pub Floors : Type 0
 Floors =
     (lag r n : ℕ) (t : Table) →
@@ -24,7 +26,8 @@ KeepsTheSum =
 
 -- Who is not active receives nothing.
 abbrev pub SparesTheInactive : Type 0
-SparesTheInactive = (lag r j : ℕ) (t : Table) → (at t j).active ≡ false → at (share lag r 0 t) j ≡ at t j
+SparesTheInactive =
+    (lag r j : ℕ) (t : Table) → (at t j).active ≡ false → at (share lag r 0 t) j ≡ at t j
 
 -- After the departures nobody is left that would depart.
 abbrev pub LeavesNoneDeparting : Type 0

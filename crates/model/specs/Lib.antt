@@ -2,7 +2,6 @@ pub mod Limits
 pub mod Session
 pub mod Table
 pub mod Lists
-pub mod Meaning
 pub mod Turn
 pub mod Departures
 pub mod Cell

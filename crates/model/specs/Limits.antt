@@ -12,8 +12,8 @@ most_waiting = room
 abbrev pub idle_length : ℕ
 idle_length = 256
 
--- An allowance counts quarters of a charge: the keep is how many of the four a leading session earns, and a turn kept by
--- allowance spends all four.
+-- An allowance counts quarters of a charge: the keep is how many of the four a leading session
+-- earns, and a turn kept by allowance spends all four.
 abbrev pub quarters : ℕ
 quarters = 4
 

@@ -1,40 +1,50 @@
--- Why a turn goes to whom it goes, said of the table just before it by the kind of its answer; and the debt that it leaves.
-use Rattle.std.specs.Prelude.{◌≡◌, ℕ, Bool, true, false, not, ◌&&◌, pos, ◌+ℤ◌, ◌-ℤ◌, Some, None, Option, ◌≢◌, int_le}
+-- Why a turn goes to whom it goes, said of chooser and table just before it by the kind of its
+-- answer; and the debt that it leaves.
+use Rattle.std.specs.Prelude.{◌≡◌, ℕ, Bool, true, false, not, ◌&&◌, pos, ◌+ℤ◌, ◌-ℤ◌, Some, None}
+use Rattle.std.specs.Prelude.{Option, option_map, ◌≢◌, int_le}
 use Rattle.answer.specs.declared.turn.Kind.{Kind}
-use Rattle.answer.specs.declared.turn.Kind.TheVariants.{Normal, Credit as OnCredit, Kept, Extra as OnExtra, Idle}
+use Rattle.answer.specs.declared.turn.Kind.TheVariants.{Normal, Credit as OnCredit, Kept}
+use Rattle.answer.specs.declared.turn.Kind.TheVariants.{Extra as OnExtra, Idle}
 use Rattle.answer.specs.declared.turn.Sent.{Sent}
 use Rattle.model.specs.Session.{Session, able, leads}
 use Rattle.model.specs.Table.{Table, at}
-use Rattle.model.specs.Lists.{Line, Credit, Extra, in_line}
+use Rattle.chooser.specs.Meaning.{Meaning}
+use Rattle.model.specs.Lists.{ListKind, Credit, Extra, stands_in, picked_from}
 
 -- it leads, and its allowance is below 0
 abbrev pub overdrawn : Session → Bool
 overdrawn s = leads s && not (int_le (pos 0) s.allowance)
 
-abbrev pub NobodyIn : Line → Table → Type 0
-NobodyIn l t = (j : ℕ) → in_line l (at t j) ≡ false
+abbrev pub NobodyIn : ListKind → Table → Type 0
+NobodyIn list t = (j : ℕ) → stands_in list (at t j) ≡ false
 
 abbrev pub sender_of : Option Sent → Option ℕ
-sender_of None = None
-sender_of (Some s) = Some s.sender
+sender_of o = option_map (λ s. s.sender) o
 
 -- the sender stands in a list
-abbrev pub StandsIn : Line → Table → Option ℕ → Type 0
-StandsIn l t None = ⊥
-StandsIn l t (Some q) = in_line l (at t q) ≡ true
+abbrev pub StandsIn : ListKind → Table → Option ℕ → Type 0
+StandsIn list t None = ⊥
+StandsIn list t (Some q) = stands_in list (at t q) ≡ true
 
--- Of the chosen place c and the sender, if there is one. The chosen sends while it is able and not overdrawn. Otherwise one who
--- is owed sends, if anybody owed is able; only then an able chosen keeps its turn, and only if it cannot, one who is owed
--- nothing sends.
-abbrev pub Reason : Table → ℕ → Option ℕ → Kind → Type 0
-Reason t c o Normal = (o ≡ Some c) × (able (at t c) ≡ true) × (overdrawn (at t c) ≡ false)
-Reason t c o OnCredit = StandsIn Credit t o × ((able (at t c) && not (overdrawn (at t c))) ≡ false)
-Reason t c o Kept = (o ≡ Some c) × (able (at t c) ≡ true) × (overdrawn (at t c) ≡ true) × NobodyIn Credit t
-Reason t c o OnExtra = StandsIn Extra t o × (able (at t c) ≡ false) × NobodyIn Credit t
-Reason t c o Idle = (o ≡ None) × NobodyIn Credit t × NobodyIn Extra t
+module _ {C : Type 0} (M : Meaning C) (c : C) (t : Table) where
+  -- the sender is the chooser's pick from what a list offers, and stands in that list
+  abbrev pub PickedFrom : ListKind → Option ℕ → Type 0
+  PickedFrom list o = (o ≡ picked_from M c list t) × StandsIn list t o
 
--- Between tables t and u, n bytes were sent by o in the turn of place c. If another sent them, the chosen is owed them and the
--- sender has had them; no other lag moves.
+  -- Of the chosen place k and the sender, if there is one. The chosen sends while it is able and
+  -- not overdrawn. Otherwise the chooser's pick of those who are owed sends, if anybody owed is
+  -- able; only then an able chosen keeps its turn, and only if it cannot, the chooser's pick of
+  -- those who are owed nothing sends.
+  abbrev pub Reason : ℕ → Option ℕ → Kind → Type 0
+  Reason k o Normal = (o ≡ Some k) × (able (at t k) ≡ true) × (overdrawn (at t k) ≡ false)
+  Reason k o OnCredit = PickedFrom Credit o × ((able (at t k) && not (overdrawn (at t k))) ≡ false)
+  Reason k o Kept =
+      (o ≡ Some k) × (able (at t k) ≡ true) × (overdrawn (at t k) ≡ true) × NobodyIn Credit t
+  Reason k o OnExtra = PickedFrom Extra o × (able (at t k) ≡ false) × NobodyIn Credit t
+  Reason k o Idle = (o ≡ None) × NobodyIn Credit t × NobodyIn Extra t
+
+-- Between tables t and u, n bytes were sent by o in the turn of place c. If another sent them, the
+-- chosen is owed them and the sender has had them; no other lag moves.
 abbrev pub Debt : ℕ → ℕ → Option ℕ → Table → Table → Type 0
 Debt c n None t u = (i : ℕ) → (at u i).lag ≡ (at t i).lag
 Debt c n (Some q) t u =

@@ -1,8 +1,10 @@
 -- A session: what a cell knows of one of its places.
-use Rattle.std.specs.Prelude.{ℕ, suc, Bool, true, false, ◌&&◌, List, [], ◌∷◌, ℤ, pos, negsuc, int_lt}
+use Rattle.std.specs.Prelude.{ℕ, suc, Bool, true, false, ◌&&◌, List, [], ◌∷◌, ℤ, pos, negsuc}
+use Rattle.std.specs.Prelude.{int_lt}
 pub use Rattle.queue.specs.declared.frame.Frame.{Frame}
 
--- The lag is what the session is owed, in bytes, and below 0 what it has had too much. A place that is not open is `vacant`.
+-- The lag is what the session is owed, in bytes, and below 0 what it has had too much. A place that
+-- is not open is `vacant`.
 pub record Session : Type 0 where
   pub booked : Bool  -- the place is open, and has booked a rate
   pub rate : ℕ
@@ -77,79 +79,19 @@ lead s = below_zero s.lag
 -- ---- one field changed, the others as they were
 
 abbrev pub with_virtual_time : ℕ → Session → Session
-with_virtual_time v s = record {
-  booked = s.booked;
-  rate = s.rate;
-  price = s.price;
-  virtual_time = v;
-  lag = s.lag;
-  allowance = s.allowance;
-  good = s.good;
-  active = s.active;
-  queue = s.queue;
-}
+with_virtual_time v s = record s { virtual_time = v }
 
 abbrev pub with_lag : ℤ → Session → Session
-with_lag z s = record {
-  booked = s.booked;
-  rate = s.rate;
-  price = s.price;
-  virtual_time = s.virtual_time;
-  lag = z;
-  allowance = s.allowance;
-  good = s.good;
-  active = s.active;
-  queue = s.queue;
-}
+with_lag z s = record s { lag = z }
 
 abbrev pub with_allowance : ℤ → Session → Session
-with_allowance z s = record {
-  booked = s.booked;
-  rate = s.rate;
-  price = s.price;
-  virtual_time = s.virtual_time;
-  lag = s.lag;
-  allowance = z;
-  good = s.good;
-  active = s.active;
-  queue = s.queue;
-}
+with_allowance z s = record s { allowance = z }
 
 abbrev pub with_good : Bool → Session → Session
-with_good b s = record {
-  booked = s.booked;
-  rate = s.rate;
-  price = s.price;
-  virtual_time = s.virtual_time;
-  lag = s.lag;
-  allowance = s.allowance;
-  good = b;
-  active = s.active;
-  queue = s.queue;
-}
+with_good b s = record s { good = b }
 
 abbrev pub with_active : Bool → Session → Session
-with_active b s = record {
-  booked = s.booked;
-  rate = s.rate;
-  price = s.price;
-  virtual_time = s.virtual_time;
-  lag = s.lag;
-  allowance = s.allowance;
-  good = s.good;
-  active = b;
-  queue = s.queue;
-}
+with_active b s = record s { active = b }
 
 abbrev pub with_queue : List Frame → Session → Session
-with_queue q s = record {
-  booked = s.booked;
-  rate = s.rate;
-  price = s.price;
-  virtual_time = s.virtual_time;
-  lag = s.lag;
-  allowance = s.allowance;
-  good = s.good;
-  active = s.active;
-  queue = q;
-}
+with_queue q s = record s { queue = q }

@@ -1,11 +1,14 @@
--- The books of a cell are in order: what holds before the first call and after each. From it follows how large every number
--- can get.
-use Rattle.std.specs.Prelude.{◌≡◌, ℕ, ◌+◌, ◌*◌, ◌<◌, ◌≤◌, true, false, ◌||◌, length, pos, Some, unsigned_abs}
+-- The books of a cell are in order: what holds before the first call and after each. From it
+-- follows how large every number can get.
+use Rattle.std.specs.Prelude.{◌≡◌, ℕ, ◌+◌, ◌*◌, ◌<◌, ◌≤◌, true, false, ◌||◌, length, pos, Some}
+use Rattle.std.specs.Prelude.{unsigned_abs}
 use Rattle.std.specs.List.{AllByRecursion}
+use Rattle.chooser.specs.Offers.{lag_bound}
 use Rattle.tariff.specs.Tariff.{link}
 use Rattle.model.specs.Limits.{places, longest, most_waiting, most_turns, quarters, dearest}
-use Rattle.model.specs.Session.{Frame, Session, vacant, waiting, leads, above_zero}
-use Rattle.model.specs.Table.{Table, at, total, totalℤ, booked_total, least}
+use Rattle.model.specs.Limits.{furthest}
+use Rattle.model.specs.Session.{Frame, Session, vacant, waiting, leads}
+use Rattle.model.specs.Table.{Table, at, totalℤ, total_owed, booked_total, least_time}
 use Rattle.model.specs.Cell.{Cell}
 
 abbrev pub Fits : Frame → Type 0
@@ -23,14 +26,15 @@ pub record Orderly (mark turns : ℕ) (s : Session) : Type 0 where
   pub frames : AllByRecursion Fits s.queue
   pub room : length s.queue ≤ most_waiting
 
--- all places together; it is the sum of the lags above zero that is bounded, since a departing lag can go whole to one session
+-- all places together; it is the sum of the lags above zero that is bounded, since a departing lag
+-- can go whole to one session
 pub record Books (keep mark turns : ℕ) (t : Table) : Type 0 where
   pub size : length t ≡ places
   pub rows : (j : ℕ) → Orderly mark turns (at t j)
   pub rates : booked_total t ≤ link
   pub balance : totalℤ (λ s. s.lag) t ≡ pos 0
-  pub owing : total (λ s. above_zero s.lag) t ≤ longest * turns
-  pub lowest : (v : ℕ) → least t ≡ Some v → v ≡ mark
+  pub owing : total_owed t ≤ longest * turns
+  pub lowest : (v : ℕ) → least_time t ≡ Some v → v ≡ mark
   pub early : mark ≤ dearest * turns
   pub few : turns ≤ most_turns
   pub modest : keep ≤ quarters
@@ -40,7 +44,7 @@ pub record Midway (most : ℕ) (t : Table) : Type 0 where
   pub size : length t ≡ places
   pub rates : booked_total t ≤ link
   pub balance : totalℤ (λ s. s.lag) t ≡ pos 0
-  pub owing : total (λ s. above_zero s.lag) t ≤ most
+  pub owing : total_owed t ≤ most
   pub quiet : (j : ℕ) → (at t j).active ≡ false → (at t j).lag ≡ pos 0
   pub counted : (j : ℕ) → (at t j).active ≡ true → 0 < (at t j).rate
 
@@ -50,3 +54,9 @@ Sound x = Books x.keep x.mark x.turns x.table
 -- the same as one fact that a struct can carry
 abbrev pub InOrder : ℕ → ℕ → ℕ → Table → Type 0
 InOrder keep mark turns t = ∥ Books keep mark turns t ∥₁
+
+-- the numbers of a session leave room for what one more turn adds
+pub record HasRoom (s : Session) : Type 0 where
+  pub time : s.virtual_time ≤ furthest
+  pub allowance : unsigned_abs s.allowance ≤ quarters * furthest
+  pub lag : unsigned_abs s.lag ≤ lag_bound

@@ -1,6 +1,8 @@
 -- The table of places: reading one, changing one, sums over all, and who is next.
-use Rattle.std.specs.Prelude.{ℕ, zero, suc, ◌+◌, min, max, Bool, true, false, cond, ◌&&◌, List, [], ◌∷◌, ℤ, pos, ◌+ℤ◌, Some, None, Option, ◌==◌}
-use Rattle.model.specs.Session.{Session, vacant}
+use Rattle.std.specs.Prelude.{ℕ, zero, suc, ◌+◌, min, max, Bool, true, false, if◌then◌else◌, ◌&&◌}
+use Rattle.std.specs.Prelude.{List, [], ◌∷◌, ℤ, pos, ◌+ℤ◌, Some, None, Option, is_none, option_map}
+use Rattle.std.specs.Prelude.{option_and_then, ◌==◌}
+use Rattle.model.specs.Session.{Session, vacant, above_zero}
 
 abbrev pub Table : Type 0
 Table = List Session
@@ -36,7 +38,11 @@ abbrev pub booked_total : Table → ℕ
 booked_total t = total (λ s. s.rate) t
 
 abbrev pub one_if : Bool → ℕ
-one_if b = cond b 1 0
+one_if b = if b then 1 else 0
+
+-- what all lagging sessions together are owed, in bytes
+abbrev pub total_owed : Table → ℕ
+total_owed t = total (λ s. above_zero s.lag) t
 
 -- how many sessions are active
 abbrev pub active_count : Table → ℕ
@@ -44,14 +50,10 @@ active_count t = total (λ s. one_if s.active) t
 
 -- ---- searches
 
-abbrev pub next : Option ℕ → Option ℕ
-next None = None
-next (Some k) = Some (suc k)
-
 -- the lowest place that passes a test
 unfoldable pub first : (Session → Bool) → Table → Option ℕ
 first p [] = None
-first p (s ∷ t) = cond (p s) (Some 0) (next (first p t))
+first p (s ∷ t) = if p s then Some 0 else option_map suc (first p t)
 
 abbrev pub sooner : Bool → ℕ → Option ℕ → Option ℕ
 sooner false v r = r
@@ -59,29 +61,22 @@ sooner true v None = Some v
 sooner true v (Some w) = Some (min v w)
 
 -- the smallest virtual time of the active sessions
-unfoldable pub least : Table → Option ℕ
-least [] = None
-least (s ∷ t) = sooner s.active s.virtual_time (least t)
+unfoldable pub least_time : Table → Option ℕ
+least_time [] = None
+least_time (s ∷ t) = sooner s.active s.virtual_time (least_time t)
 
 -- the largest virtual time of any open session; a vacant place has 0
-unfoldable pub greatest : Table → ℕ
-greatest [] = 0
-greatest (s ∷ t) = max s.virtual_time (greatest t)
-
-abbrev pub is_none : Option ℕ → Bool
-is_none None = true
-is_none (Some k) = false
+unfoldable pub latest_time : Table → ℕ
+latest_time [] = 0
+latest_time (s ∷ t) = max s.virtual_time (latest_time t)
 
 abbrev pub none_active : Table → Bool
-none_active t = is_none (least t)
+none_active t = is_none (least_time t)
 
 abbrev pub due : ℕ → Session → Bool
 due v s = s.active && s.virtual_time == v
 
-abbrev pub chosen_at : Table → Option ℕ → Option ℕ
-chosen_at t None = None
-chosen_at t (Some v) = first (due v) t
-
--- whose turn it is: of the active sessions one with the smallest virtual time, the lowest place of those
+-- whose turn it is: of the active sessions one with the smallest virtual time, the lowest place of
+-- those
 unfoldable pub chosen : Table → Option ℕ
-chosen t = chosen_at t (least t)
+chosen t = option_and_then (λ v. first (due v) t) (least_time t)

@@ -1,12 +1,15 @@
 -- A turn up to the departures: who sends and why, what it costs, and who owes whom after it.
-use Rattle.std.specs.Prelude.{ℕ, ◌+◌, ◌*◌, Bool, cond, not, ◌&&◌, List, [], ◌∷◌, ℤ, pos, ◌+ℤ◌, ◌-ℤ◌, Some, None, Option, int_le, int_lt}
+use Rattle.std.specs.Prelude.{ℕ, ◌+◌, ◌*◌, Bool, if◌then◌else◌, not, ◌&&◌, List, [], ◌∷◌, ℤ, pos}
+use Rattle.std.specs.Prelude.{◌+ℤ◌, ◌-ℤ◌, Some, None, Option, option_map, int_le, int_lt}
 use Rattle.answer.specs.declared.turn.Kind.{Kind}
-use Rattle.answer.specs.declared.turn.Kind.TheVariants.{Normal, Credit as OnCredit, Kept, Extra as OnExtra, Idle}
+use Rattle.answer.specs.declared.turn.Kind.TheVariants.{Normal, Credit as OnCredit, Kept}
+use Rattle.answer.specs.declared.turn.Kind.TheVariants.{Extra as OnExtra, Idle}
 use Rattle.answer.specs.declared.turn.Sent.{Sent}
 use Rattle.answer.specs.declared.turn.Turn.{Turn}
 use Rattle.queue.specs.Fifo.{no_frame}
 use Rattle.model.specs.Limits.{idle_length, quarters}
-use Rattle.model.specs.Session.{Frame, Session, able, leads, with_virtual_time, with_lag, with_allowance, with_queue}
+use Rattle.model.specs.Session.{Frame, Session, able, leads, with_virtual_time, with_lag}
+use Rattle.model.specs.Session.{with_allowance, with_queue}
 use Rattle.model.specs.Table.{Table, at, change}
 pub use Rattle.queue.specs.Fifo.{rest}
 
@@ -26,16 +29,16 @@ abbrev pub picked : Option ℕ → (ℕ → Way) → Way → Way
 picked None f w = w
 picked (Some q) f w = f q
 
--- of the chosen session: whether it is able, whether it leads, whether its allowance is at least 0; and the picks from the
--- credit list and from the extra list
+-- of the chosen session: whether it is able, whether it leads, whether its allowance is at least 0;
+-- and the picks from the credit list and from the extra list
 abbrev pub way : Bool → Bool → Bool → Option ℕ → Option ℕ → Way
 way able leads allowed owed spare =
-    cond (able && not leads) by_right
-    (cond (able && allowed) by_allowance
-    (picked owed by_credit
-    (cond able unclaimed
-    (picked spare by_extra
-    idle))))
+    if able && not leads then by_right
+    else (if able && allowed then by_allowance
+    else picked owed by_credit
+    (if able then unclaimed
+    else picked spare by_extra
+    idle))
 
 abbrev pub way_of : Session → Option ℕ → Option ℕ → Way
 way_of s owed spare = way (able s) (leads s) (int_le (pos 0) s.allowance) owed spare
@@ -59,20 +62,25 @@ kind idle = Idle
 
 -- ---- what it sends
 
-abbrev pub front : List Frame → Frame
-front [] = no_frame
-front (f ∷ fs) = f
+abbrev pub first_frame : List Frame → Frame
+first_frame [] = no_frame
+first_frame (f ∷ fs) = f
 
 abbrev pub length_of : Table → Option ℕ → ℕ
 length_of t None = idle_length
-length_of t (Some q) = (front (at t q).queue).length
+length_of t (Some q) = (first_frame (at t q).queue).length
 
 abbrev pub sent_of : Table → Option ℕ → Option Sent
-sent_of t None = None
-sent_of t (Some q) = Some (record { sender = q; tag = (front (at t q).queue).tag })
+sent_of t o =
+    option_map (λ q. record { sender = q; tag = (first_frame (at t q).queue).tag }) o
 
 abbrev pub answer_of : Table → ℕ → Way → Turn
-answer_of t c w = record { chosen = c; sent = sent_of t (sender c w); length = length_of t (sender c w); kind = kind w }
+answer_of t c w = record {
+  chosen = c;
+  sent = sent_of t (sender c w);
+  length = length_of t (sender c w);
+  kind = kind w;
+}
 
 -- ---- what a turn of n bytes makes of a session
 
@@ -80,10 +88,11 @@ answer_of t c w = record { chosen = c; sent = sent_of t (sender c w); length = l
 abbrev pub popped : Session → Session
 popped s = with_queue (rest s.queue) s
 
--- what an allowance becomes by a charge, of which it spends so many quarters; it moves only while the session leads
+-- what an allowance becomes by a charge, of which it spends so many quarters; it moves only while
+-- the session leads
 abbrev pub allowed : ℕ → ℕ → ℕ → Session → ℤ
 allowed keep spent charge s =
-    cond (leads s) (s.allowance +ℤ pos (keep * charge) -ℤ pos (spent * charge)) s.allowance
+    if leads s then s.allowance +ℤ pos (keep * charge) -ℤ pos (spent * charge) else s.allowance
 
 abbrev pub charged : ℕ → ℕ → ℕ → Session → Session
 charged keep spent n s =
@@ -97,8 +106,9 @@ owed n s = with_lag (s.lag +ℤ pos n) s
 -- it has had n bytes; whoever begins to lead begins with no allowance
 abbrev pub repaid : ℕ → Session → Session
 repaid n s =
-    with_lag (s.lag -ℤ pos n)
-    (with_allowance (cond (not (leads s) && int_lt (s.lag -ℤ pos n) (pos 0)) (pos 0) s.allowance) s)
+    let lag = s.lag -ℤ pos n in
+    with_lag lag
+    (with_allowance (if not (leads s) && int_lt lag (pos 0) then pos 0 else s.allowance) s)
 
 -- the chosen that sends in its own turn
 abbrev pub sends : ℕ → ℕ → ℕ → Session → Session
