@@ -1,6 +1,6 @@
 #!/bin/sh
-# Builds the C library and tests it from C: c/dalgweniz.h says what crates/base_unit/src exports, the player in C prints
-# what cellplay prints, and c/unit_test.c finds nothing wrong, also under gcc's sanitizers and under valgrind.
+# Builds the C library and tests it from C: the header agrees with the source (c/header.sh), the player in C prints what
+# cellplay prints, and c/unit_test.c finds nothing wrong, also under gcc's sanitizers and under valgrind.
 #
 #   c/c_library.sh [--built]
 #
@@ -27,37 +27,10 @@ if [ "${1:-}" != --built ]; then
     grep "^logic=" "$dir/rt" | tail -1
 fi
 
-# ---- the header against the source: each function and each out-struct, type by type and in order, and each refusal's number
+# ---- the header against the source
 
-numbers='s/\busize\b/size_t/g; s/\b\([ui]\)\(8\|16\|32\|64\)\b/\1int\2_t/g; s/\buint/uint/g; s/\biint/int/g'
-types='s/&mut Unit\b/dalgweniz_cell */g; s/&Unit\b/const dalgweniz_cell */g
-    s/&mut \[u8\]/u8 *, usize/g; s/&\[u8\]/const u8 *, usize/g
-    s/&mut TurnOut\b/dalgweniz_turn_out */g; s/&mut Fed\b/dalgweniz_fed */g
-    s/&mut StandingOut\b/dalgweniz_standing */g; s/&mut FrameOut\b/dalgweniz_frame_out */g; s/&mut u64\b/u64 */g'
-
-cat crates/base_unit/src/*.rt | sed 's@//.*@@' | tr -s '\n ' ' ' > "$dir/source"
-gcc -fpreprocessed -dD -E -P "$header" | tr -s '\n ' ' ' > "$dir/header"
-
-grep -o 'extern "C" fn [a-z_]*([^)]*) -> [a-z0-9]*' "$dir/source" |
-    sed -e 's/extern "C" fn //' -e 's/, *)/)/; s/( /(/; s/[a-z_]*: //g' -e 's/\(.*\) -> \(.*\)/\2 \1/' -e "$types" -e "$numbers" |
-    sort > "$dir/source.calls"
-grep -o '[a-z0-9_]* dalgweniz_[a-z]*([^)]*);' "$dir/header" |
-    sed -e 's/;$//; s/(void)/()/; s/\([ *]\)[a-z]*\([,)]\)/\1\2/g; s/ \([,)]\)/\1/g' |
-    sort > "$dir/header.calls"
-grep -o 'pub struct [A-Za-z]*Out {[^}]*}\|pub struct Fed {[^}]*}' "$dir/source" |
-    sed -e 's/pub struct \([A-Za-z]*\) {\(.*\)}/\&mut \1:\2/; s/pub \([a-z_]*\): \([a-z0-9]*\),/\2 \1;/g' -e "$types" -e 's/ \*:/:/' -e "$numbers" |
-    sort > "$dir/source.structs"
-grep -o 'typedef struct {[^}]*} dalgweniz_[a-z_]*;' "$dir/header" | grep -v 'dalgweniz_cell;' |
-    sed 's/typedef struct {\(.*\)} \(dalgweniz_[a-z_]*\);/\2:\1/' |
-    sort > "$dir/header.structs"
-sed -n 's/^ *\([A-Z][A-Za-z]*\) = \([0-9]*\),/\1 \2/p' crates/answer/src/refusal.rt |
-    sed 's/\([a-z]\)\([A-Z]\)/\1_\2/g' | tr 'a-z' 'A-Z' | sort > "$dir/source.refusals"
-grep -o 'DALGWENIZ_[A-Z_]* = [0-9]*' "$dir/header" | sed 's/DALGWENIZ_//; s/ = / /' |
-    grep -v -e '^DONE ' -e '^BY_THE_' | sort > "$dir/header.refusals"
-for what in calls structs refusals; do
-    diff "$dir/header.$what" "$dir/source.$what" || fail "the $what of $header (<) are not those of the source (>)"
-    echo "header and source agree: $(wc -l < "$dir/header.$what") $what"
-done
+c/header.sh > "$dir/agree" || { cat "$dir/agree"; fail "the header is not that of the source"; }
+cat "$dir/agree"
 
 # ---- what the library calls itself: nothing that allocates, reads, writes or waits
 

@@ -55,7 +55,7 @@ enum {
 #define DALGWENIZ_RECORD 16 /* bytes of a record */
 #define DALGWENIZ_LINE 64   /* bytes that a line buffer must have */
 
-/* The cell. What stands in it is the library's affair; the size is checked by c/c_library.sh. */
+/* The cell. What stands in it is the library's affair; the size is checked by c/header.sh. */
 #define DALGWENIZ_CELL_BYTES 21520
 typedef struct {
     uint64_t inner[DALGWENIZ_CELL_BYTES / 8];
@@ -136,7 +136,8 @@ uint8_t dalgweniz_session(const dalgweniz_cell *cell, uint8_t place, dalgweniz_s
 /* The i-th frame, from 0, that waits at an open place. 0, 5 or 7. */
 uint8_t dalgweniz_frame(const dalgweniz_cell *cell, uint8_t place, size_t i, dalgweniz_frame_out *frame);
 
-/* The service that a place, open or not, has had from the credit list, or from the extra list, in bytes times price. 0 or 5. */
+/* The service that a place, open or not, has had from the credit list, or from the extra list, in bytes times price. 0 or 5: the
+ * count of a place that is closed stays until it is opened again. */
 uint8_t dalgweniz_count(const dalgweniz_cell *cell, bool extra, uint8_t place, uint64_t *count);
 
 /* The virtual time that the cell has come to. */

@@ -1,4 +1,3 @@
-pub mod Least
 pub mod View
 pub mod Numbers
 pub mod Made

@@ -1,4 +1,5 @@
--- What stands in an out-struct after a call: the answer, or after a refusal what stood there before.
+-- What stands in an out-struct after a call: the answer, or after a refusal what stood there
+-- before.
 use Rattle.std.specs.Prelude.{ℕ, Some, None, Ok, Err, Option, Result}
 use Rattle.answer.specs.Names.{kind_byte}
 use Rattle.answer.specs.declared.refusal.Refusal.{Refusal}
@@ -6,7 +7,7 @@ use Rattle.answer.specs.declared.turn.Answer.{Answer}
 use Rattle.answer.specs.declared.turn.Answer.TheVariants.{Done, Turn as Turned}
 use Rattle.answer.specs.declared.turn.Sent.{Sent}
 use Rattle.answer.specs.declared.turn.Turn.{Turn}
-use Rattle.cell.specs.declared.standing.Standing.{Standing}
+use Rattle.cell.specs.declared.questions.Standing.{Standing}
 use Rattle.model.specs.Session.{Frame}
 use Rattle.base_unit.specs.Numbers.{flag}
 use Rattle.base_unit.specs.declared.outs.FrameOut.{FrameOut}
@@ -19,8 +20,22 @@ left out (Err why) before = before
 
 -- without a sender, sender and tag are 0
 abbrev pub sent_out : Turn → Option Sent → TurnOut
-sent_out t None = record { tag = 0; length = t.length; chosen = t.chosen; sent = 0; sender = 0; kind = kind_byte t.kind }
-sent_out t (Some s) = record { tag = s.tag; length = t.length; chosen = t.chosen; sent = 1; sender = s.sender; kind = kind_byte t.kind }
+sent_out t None = record {
+  tag = 0;
+  length = t.length;
+  chosen = t.chosen;
+  sent = 0;
+  sender = 0;
+  kind = kind_byte t.kind;
+}
+sent_out t (Some s) = record {
+  tag = s.tag;
+  length = t.length;
+  chosen = t.chosen;
+  sent = 1;
+  sender = s.sender;
+  kind = kind_byte t.kind;
+}
 
 abbrev pub turn_out : Turn → TurnOut
 turn_out t = sent_out t t.sent
@@ -51,7 +66,3 @@ frame_out (Some f) = record { tag = f.tag; length = f.length; there = 1 }
 
 abbrev pub frame_left : Result (Option Frame) Refusal → FrameOut → FrameOut
 frame_left = left frame_out
-
-abbrev pub count_left : Option ℕ → ℕ → ℕ
-count_left (Some n) before = n
-count_left None before = before

@@ -1,39 +1,44 @@
-// One record of a recording: read, applied, and told of in a line.
+// One record of a recording: read, applied, and its line written.
 ghost use Rattle.std.specs.Prelude.{◌≡◌};
-ghost use Rattle.base_unit.specs.Feed.{told_fault, told_of, fed_answer, fed};
-ghost use Rattle.base_unit.specs.View.{unit_view};
+ghost use Rattle.base_unit.specs.Feed.{fed_answer, feeding};
+ghost use Rattle.base_unit.specs.View.{memory_view};
 
+use super::answers::DONE;
+use super::memory::CellMemory;
 use super::outs::Fed;
-use super::tell::DONE;
-use super::unit::Unit;
-use answer::{Answer, Fault, Layer, Refusal};
-use record::{LINE, fault_line, line, read};
+use answer::Refusal;
+use record::{Call, LINE, fault_line, line, read};
 
-// Feeds a record to the cell; its line goes into the front of a buffer.
+/// Feeds a record to the cell, by its number from 1; its line goes into the front of a buffer, and
+/// the rest of the buffer stays. 0 or 17, where the buffer has no room for the longest line: nothing
+/// is read then. What the record or the cell refuses is no refusal of this call: it stands in `fed`.
 #[unsafe(no_mangle)]
 pub extern "C" fn dalgweniz_feed(
-    unit: &mut Unit,
+    memory: &mut CellMemory,
     number: u64,
     bytes: &[u8],
     out: &mut [u8],
-    told: &mut Fed,
+    fed: &mut Fed,
 ) -> u8
     ensures answer { result ≡ fed_answer out.old }
-    ensures after { unit_view unit.new ≡ (fed (unit_view unit.old) number bytes.now out.old told.old).cell }
-    ensures line { out.new ≡ (fed (unit_view unit.old) number bytes.now out.old told.old).buffer }
-    ensures told { told.new ≡ (fed (unit_view unit.old) number bytes.now out.old told.old).told }
+    ensures after { memory_view memory.new ≡
+        (feeding (memory_view memory.old) number bytes.now out.old fed.old).cell }
+    ensures line { out.new ≡
+        (feeding (memory_view memory.old) number bytes.now out.old fed.old).buffer }
+    ensures fed { fed.new ≡
+        (feeding (memory_view memory.old) number bytes.now out.old fed.old).fed }
 {
     if out.len() < LINE {
         return Refusal::BufferTooShort.number();
     }
-    *told = match read(bytes, number) {
+    *fed = match read(bytes, number) {
         // the input has ended: the player stops
         Ok(None) => Fed {
             stop: 1,
             ..Fed::default()
         },
         Ok(Some((event, _))) => {
-            let result = unit.call(event.call);
+            let result = memory.call(Call::from(event));
             let line = line(number, event, result, out).unwrap();
             Fed {
                 line,
@@ -49,35 +54,4 @@ pub extern "C" fn dalgweniz_feed(
         }
     };
     DONE
-}
-
-// Told of a call: whatever the cell answers, the player goes on.
-impl From<Result<Answer, Refusal>> for Fed {
-    ghost from_gives = { λ res told. told ≡ told_of 0 res };
-
-    fn from(res: Result<Answer, Refusal>) -> Fed {
-        match res {
-            Ok(_) => Fed::default(),
-            Err(why) => Fed {
-                refusal: why.number(),
-                layer: Layer::Cell as u8,
-                ..Fed::default()
-            },
-        }
-    }
-}
-
-// Told of a record in which no event was read: the player stops.
-impl From<Fault> for Fed {
-    ghost from_gives = { λ fault told. told ≡ told_fault 0 fault };
-
-    fn from(fault: Fault) -> Fed {
-        Fed {
-            line: 0,
-            byte: fault.byte,
-            refusal: fault.refusal.number(),
-            layer: fault.layer as u8,
-            stop: 1,
-        }
-    }
 }

@@ -1,4 +1,5 @@
-pub mod Rows
+pub mod Sized
+pub mod Zeros
 pub mod Steps
 pub mod Telling
 pub mod Turning

@@ -2,13 +2,13 @@
 use Rattle.std.proofs.Common.{◌≡◌, ℕ, set, IfSome, sym, ap, ◌∙◌, subst}
 use Rattle.chooser.specs.declared.place.Place.{Place}
 use Rattle.model.proofs.Tables.{at_is, change_is, at_other}
-use Rattle.model.specs.Lists.{Line, Credit, Extra}
+use Rattle.model.specs.Lists.{ListKind, Credit, Extra}
 use Rattle.model.specs.Session.{Session}
 use Rattle.model.specs.Table.{Table, at, change}
 use Rattle.model.specs.Turn.{hands_on, takes_up, turned}
 use Rattle.cell.specs.Ways.{way_as, handed_to}
-use Rattle.cell.specs.declared.way.Way.{Way}
-use Rattle.cell.specs.declared.way.Way.TheVariants.{HandedOn}
+use Rattle.cell.specs.declared.decide.Way.{Way}
+use Rattle.cell.specs.declared.decide.Way.TheVariants.{HandedOn}
 
 -- reading a session and changing it, as on a list
 pub ruleset on_lists = (at_is, change_is)
@@ -26,13 +26,13 @@ two_made t i j f g n =
     ∙ made_there (change t i f) j g
 
 -- a turn that is handed on from the chosen place to another, both as they were found
-handed : (keep n : ℕ) (t : Table) (chosen other : Place) (l : Line) → IfSome (handed_to (way_as (HandedOn l other))) (λ q. chosen.number ≡ q → ⊥) →
+handed : (keep n : ℕ) (t : Table) (chosen other : Place) (l : ListKind) → IfSome (handed_to (way_as (HandedOn l other))) (λ q. chosen.number ≡ q → ⊥) →
     set (set t chosen.number (hands_on keep n (at t chosen.number))) other.number (takes_up n (at t other.number))
     ≡ turned keep t chosen.number n (way_as (HandedOn l other))
 handed keep n t chosen other Credit apart = two_made t chosen.number other.number (hands_on keep n) (takes_up n) apart
 handed keep n t chosen other Extra apart = two_made t chosen.number other.number (hands_on keep n) (takes_up n) apart
 
-pub handed_left : (keep n : ℕ) (t : Table) (chosen other a b : Place) (l : Line) (way : Way) (r s : Session) → way ≡ HandedOn l other →
+pub handed_left : (keep n : ℕ) (t : Table) (chosen other a b : Place) (l : ListKind) (way : Way) (r s : Session) → way ≡ HandedOn l other →
     a ≡ chosen → b ≡ other → r ≡ at t chosen.number → s ≡ at t other.number → IfSome (handed_to (way_as way)) (λ q. chosen.number ≡ q → ⊥) →
     set (set t a.number (hands_on keep n r)) b.number (takes_up n s) ≡ turned keep t chosen.number n (way_as way)
 handed_left keep n t chosen other a b l way r s is x y d e apart =

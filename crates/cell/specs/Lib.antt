@@ -1,9 +1,9 @@
 pub mod Found
+pub mod Offerable
 pub mod View
 pub mod Plans
 pub mod Answers
 pub mod Asked
-pub mod Room
 pub mod Ways
-pub mod Picks
 pub mod Turns
+pub mod Zero

@@ -1,16 +1,16 @@
--- The answer of a turn, and whose it is, as the definition says them.
-use Rattle.std.specs.Prelude.{ℕ, Ok, Err, Result}
+-- Whose turn it is, as the definition says it.
+use Rattle.std.specs.Prelude.{ℕ, Result, unwrap_or}
+use Rattle.std.specs.Result.{result_map_both}
 use Rattle.answer.specs.declared.refusal.Refusal.{Refusal}
-use Rattle.answer.specs.declared.turn.Answer.{Answer}
-use Rattle.answer.specs.declared.turn.Answer.TheVariants.{Turn as Turned}
-use Rattle.answer.specs.declared.turn.Turn.{Turn}
 use Rattle.chooser.specs.declared.place.Place.{Place}
+use Rattle.model.specs.Calls.{turn, refusal, unless}
+use Rattle.model.specs.Cell.{Cell}
+use Rattle.model.specs.Table.{chosen}
 
-abbrev pub turned_as : Result Turn Refusal → Result Answer Refusal
-turned_as (Ok t) = Ok (Turned t)
-turned_as (Err why) = Err why
-
--- the place whose turn it is, by its number
+-- the place, by its number
 abbrev pub chosen_as : Result Place Refusal → Result ℕ Refusal
-chosen_as (Ok p) = Ok p.number
-chosen_as (Err why) = Err why
+chosen_as r = result_map_both (λ p. p.number) (λ why. why) r
+
+-- whose turn is next, or why there is none
+abbrev pub next : {C : Type 0} → Cell C → Result ℕ Refusal
+next x = unless (refusal x turn) (unwrap_or (chosen x.table) 0)

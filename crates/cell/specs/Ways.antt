@@ -2,13 +2,14 @@
 use Rattle.std.specs.Prelude.{ℕ, Some, None, Option}
 use Rattle.answer.specs.declared.turn.Kind.{Kind}
 use Rattle.answer.specs.declared.turn.Turn.{Turn}
-use Rattle.model.specs.Cell.{Cell}
+use Rattle.model.specs.Limits.{idle_length}
 use Rattle.model.specs.Lists.{Credit, Extra}
 use Rattle.model.specs.Session.{Frame}
-use Rattle.model.specs.Table.{Table}
-use Rattle.model.specs.Turn.{Way as TheWay, by_right, by_allowance, by_credit, unclaimed, by_extra, idle}
-use Rattle.cell.specs.declared.way.Way.{Way}
-use Rattle.cell.specs.declared.way.Way.TheVariants.{ByRight, ByAllowance, HandedOn, Unclaimed, Idle}
+use Rattle.model.specs.Turn.{Way as TheWay, by_right, by_allowance, by_credit, unclaimed, by_extra}
+use Rattle.model.specs.Turn.{idle}
+use Rattle.cell.specs.declared.decide.Way.{Way}
+use Rattle.cell.specs.declared.decide.Way.TheVariants.{ByRight, ByAllowance, HandedOn, Unclaimed}
+use Rattle.cell.specs.declared.decide.Way.TheVariants.{Idle}
 
 abbrev pub way_as : Way → TheWay
 way_as ByRight = by_right
@@ -27,10 +28,15 @@ handed_to unclaimed = None
 handed_to (by_extra q) = Some q
 handed_to idle = None
 
--- a cell of which only the chooser and the table are looked at
-abbrev pub only : {C : Type 0} → C → Table → Cell C
-only c t = record { keep = 0; mark = 0; turns = 0; table = t; chooser = c }
-
 -- what is answered of the turn of place c in which the one at q sends a frame
 abbrev pub turn_with : ℕ → ℕ → Frame → Kind → Turn
-turn_with c q f k = record { chosen = c; sent = Some (record { sender = q; tag = f.tag }); length = f.length; kind = k }
+turn_with c q f k = record {
+  chosen = c;
+  sent = Some (record { sender = q; tag = f.tag });
+  length = f.length;
+  kind = k;
+}
+
+-- and of one in which nobody sends
+abbrev pub idle_turn : ℕ → Turn
+idle_turn c = record { chosen = c; sent = None; length = idle_length; kind = Kind.Idle }

@@ -1,25 +1,15 @@
 // A radio cell of 64 places under one schedule, over any chooser.
 #![tactic(auto)]
 
-mod asks;
-mod before;
-mod calls;
+mod cell;
 mod decide;
-mod leave;
-mod offers;
-mod placed;
-mod plans;
-mod put;
-mod roll;
-mod row;
+mod questions;
+mod rows;
+mod schedule;
 mod send;
 mod settle;
-mod standing;
-mod state;
 mod turn;
-mod unmade;
-mod way;
 
-pub use standing::Standing;
-pub use state::Cell;
-pub use unmade::Unmade;
+pub use cell::{Cell, Unmade};
+pub use questions::Standing;
+pub use schedule::Schedule;

@@ -1,31 +1,46 @@
 // The turn.
 ghost use Rattle.std.specs.Prelude.{◌≡◌, Ok};
 ghost use Rattle.answer.specs.declared.turn.Answer.TheVariants.{Turn as Turned};
-ghost use Rattle.model.specs.Calls.{turn as a_turn, refusal, found, heard, step};
-ghost use Rattle.model.specs.Meaning.{meant};
-ghost use Rattle.model.specs.Table.{at, chosen as chosen_of};
+ghost use Rattle.chooser.specs.Meaning.{meant};
+ghost use Rattle.chooser.specs.Offers.{lag_bound};
+ghost use Rattle.chooser.specs.Tellings.{told_all};
+ghost use Rattle.model.specs.Calls.{turn as a_turn, answer_to, cell_after, served_in};
+ghost use Rattle.model.specs.Departures.{departures};
+ghost use Rattle.model.specs.Sound.{Midway as TheMidway};
+ghost use Rattle.model.specs.Table.{at};
 ghost use Rattle.table.specs.Places.{table_of};
-ghost use Rattle.cell.specs.Plans.{unless};
-ghost use Rattle.cell.specs.Turns.{chosen_as, turned_as};
-ghost use Rattle.cell.specs.View.{view};
-ghost use Rattle.cell.specs.Ways.{way_as, only};
+ghost use Rattle.cell.specs.Answers.{turned_as};
+ghost use Rattle.cell.specs.Turns.{chosen_as, next};
+ghost use Rattle.cell.specs.View.{alone, cell_of};
+ghost use Rattle.cell.specs.Ways.{way_as};
 
-use super::before::look;
-use super::leave::leave;
-use super::roll::Roll;
-use super::row::row_at;
+use super::decide::Way;
+use super::rows::row_at;
+use super::schedule::Schedule;
 use super::send::carry_out;
-use super::state::Cell;
-use super::way::Way;
+use super::settle::{Before, Roll};
 use answer::{Refusal, Turn};
-use chooser::{Chooser, MOST_TURNS, Place};
+use chooser::{Chooser, MOST_TURNS, PLACES, Place};
+use departure::Midway;
 use session::Row;
-use table::due;
+use table::{due, first_to_depart};
 
-impl<C> Cell<C> {
+impl Schedule {
+    /// One turn: the chosen session sends, or hands the turn on, and pays for it. Refused while no
+    /// session is active, and after 2,000,000,000 turns.
+    pub fn turn<C: Chooser>(&mut self, chooser: &mut C) -> Result<Turn, Refusal>
+        ensures answer { turned_as result ≡
+            answer_to (meant C.Chooser) (cell_of self.old chooser.old) a_turn }
+        ensures after { cell_of self.new chooser.new ≡
+            cell_after (meant C.Chooser) (cell_of self.old chooser.old) a_turn }
+    {
+        let chosen = self.next()?;
+        Ok(self.pass(chooser, chosen))
+    }
+
     // Whose turn it is.
     fn next(&self) -> Result<Place, Refusal>
-        ensures { chosen_as result ≡ unless (refusal (view self.now) a_turn) (found (chosen_of (view self.now).table)) }
+        ensures { chosen_as result ≡ next (alone self.now) }
     {
         let place = due(&self.rows).ok_or(Refusal::NoneActive)?;
         if self.turns >= MOST_TURNS {
@@ -33,49 +48,53 @@ impl<C> Cell<C> {
         }
         Ok(place)
     }
-}
-
-impl<C: Chooser> Cell<C> {
-    // One turn: the chosen session sends, or hands the turn on, and pays for it.
-    pub fn turn(&mut self) -> Result<Turn, Refusal>
-        ensures answer { turned_as result ≡ (step (meant C.Chooser) (view self.old) a_turn).answer }
-        ensures after { view self.new ≡ (step (meant C.Chooser) (view self.old) a_turn).cell }
-    {
-        let chosen = self.next()?;
-        Ok(self.pass(chosen))
-    }
 
     // The turn of the place that is next, from who sends in it to who joined a list by it.
-    // Midway the books are not in order, so the steps take parts of the cell and not the cell.
-    fn pass(&mut self, chosen: Place) -> Turn
-        requires { Ok chosen.number ≡ unless (refusal (view self.old) a_turn) (found (chosen_of (view self.old).table)) }
-        ensures answer { Ok (Turned result) ≡ (step (meant C.Chooser) (view self.old) a_turn).answer }
-        ensures after { view self.new ≡ (step (meant C.Chooser) (view self.old) a_turn).cell }
+    // Midway the books are not in order, so the steps take parts of the schedule and not the whole.
+    fn pass<C: Chooser>(&mut self, chooser: &mut C, chosen: Place) -> Turn
+        requires { Ok chosen.number ≡ next (alone self.old) }
+        ensures answer { Ok (Turned result) ≡
+            answer_to (meant C.Chooser) (cell_of self.old chooser.old) a_turn }
+        ensures after { cell_of self.new chooser.new ≡
+            cell_after (meant C.Chooser) (cell_of self.old chooser.old) a_turn }
     {
-        let before = look(&self.rows);
+        let before = Before::look(&self.rows);
         let roll = Roll { rows: &self.rows };
-        let way = roll.decide(&self.chooser, chosen);
+        let way = roll.decide(chooser, chosen);
         let turn = carry_out(&mut self.rows, self.keep, chosen, way);
-        tell_served(&mut self.chooser, way, &self.rows, turn.length);
+        tell_served(chooser, way, &self.rows, turn.length);
         leave(&mut self.rows);
         let roll = Roll { rows: &self.rows };
-        self.mark = roll.settle(&before, self.mark, &mut self.chooser);
+        self.mark = roll.settle(chooser, &before, self.mark);
         self.turns += 1;
         turn
     }
 }
 
-// The chooser hears who was served in another's turn.
-fn tell_served<C: Chooser>(chooser: &mut C, way: Way, rows: &[Row; 64], bytes: u16)
-    ensures { chooser.new ≡ heard (meant C.Chooser) (only chooser.old (table_of rows.now)) (way_as way) bytes }
+// The chooser is told who was served in another's turn.
+fn tell_served<C: Chooser>(chooser: &mut C, way: Way, rows: &[Row; PLACES], bytes: u16)
+    ensures { chooser.new ≡ told_all (meant C.Chooser) chooser.old
+        (served_in (table_of rows.now) (way_as way) bytes) }
 {
-    if let Way::HandedOn(line, place) = way {
-        chooser.served(line, place.index(), bytes, price(rows, place));
+    if let Way::HandedOn(list, place) = way {
+        chooser.served(list, place.index(), bytes, price(rows, place));
     }
 }
 
-fn price(rows: &[Row; 64], place: Place) -> u32
+fn price(rows: &[Row; PLACES], place: Place) -> u32
     ensures { result ≡ (at (table_of rows.now) place.number).price }
 {
     row_at(rows, place).price
+}
+
+// Those depart who have nothing to send and do not lead: in nearly every turn nobody.
+#[tactic(auto, using(departure::proofs::Releases::departures_none))]
+fn leave(rows: &mut [Row; PLACES])
+    requires { TheMidway lag_bound (table_of rows.old) }
+    ensures { table_of rows.new ≡ departures (table_of rows.old) }
+{
+    if first_to_depart(rows).is_some() {
+        let table = Midway { rows: *rows };
+        *rows = table.departed();
+    }
 }

@@ -1,14 +1,14 @@
 // All that the questions tell of a cell, to be compared before and after a call.
 use cell::{Cell, Standing};
-use chooser::Line;
+use chooser::{ListKind, PLACES};
 use least_served::LeastServed;
-use queue::Frame;
+use queue::{Frame, ROOM};
 use std::array;
 
 #[derive(Clone, Copy, PartialEq, Eq, Debug)]
 pub struct Place {
     session: Option<Standing>,
-    frames: [Option<Frame>; 32],
+    frames: [Option<Frame>; ROOM],
     // what the chooser holds of it, for each list
     credit: Option<u64>,
     extra: Option<u64>,
@@ -16,7 +16,7 @@ pub struct Place {
 
 #[derive(Clone, Copy, PartialEq, Eq, Debug)]
 pub struct Picture {
-    places: [Place; 64],
+    places: [Place; PLACES],
     mark: u64,
     booked: u32,
     turns: u32,
@@ -28,8 +28,8 @@ fn look_at(cell: &Cell<LeastServed>, at: u8) -> Place {
     Place {
         session: cell.session(at).ok(),
         frames: array::from_fn(|i| cell.frame(at, i).ok().flatten()),
-        credit: held.count(Line::Credit, usize::from(at)),
-        extra: held.count(Line::Extra, usize::from(at)),
+        credit: held.count(ListKind::Credit, usize::from(at)),
+        extra: held.count(ListKind::Extra, usize::from(at)),
     }
 }
 

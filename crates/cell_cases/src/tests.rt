@@ -2,7 +2,7 @@
 use super::picture::look;
 use answer::Refusal;
 use cell::{Cell, Standing};
-use chooser::{Chooser, Line};
+use chooser::{Chooser, ListKind};
 use least_served::LeastServed;
 use queue::Frame;
 use std::process::Abort;
@@ -215,16 +215,16 @@ fn channels(rt: HostRuntime) -> Result<(), Fail> {
 #[test]
 fn opening_clears_the_chooser(rt: HostRuntime) -> Result<(), Fail> {
     let mut served = LeastServed::new();
-    served.served(Line::Extra, 4, 100, 2);
-    served.served(Line::Credit, 4, 10, 3);
-    served.served(Line::Extra, 5, 7, 1);
+    served.served(ListKind::Extra, 4, 100, 2);
+    served.served(ListKind::Credit, 4, 10, 3);
+    served.served(ListKind::Extra, 5, 7, 1);
     let mut cell = made(0, served)?;
     refused(&rt, &mut cell, |cell| cell.open(4, 17), 8);
-    assert_eq!(rt; cell.chooser().count(Line::Extra, 4), Some(200));
+    assert_eq!(rt; cell.chooser().count(ListKind::Extra, 4), Some(200));
     cell.open(4, 1)?;
-    assert_eq!(rt; cell.chooser().count(Line::Extra, 4), Some(0));
-    assert_eq!(rt; cell.chooser().count(Line::Credit, 4), Some(0));
-    assert_eq!(rt; cell.chooser().count(Line::Extra, 5), Some(7));
+    assert_eq!(rt; cell.chooser().count(ListKind::Extra, 4), Some(0));
+    assert_eq!(rt; cell.chooser().count(ListKind::Credit, 4), Some(0));
+    assert_eq!(rt; cell.chooser().count(ListKind::Extra, 5), Some(7));
     Ok(())
 }
 
@@ -233,12 +233,12 @@ fn keeps(rt: HostRuntime) -> Result<(), Fail> {
     let cell = made(4, LeastServed::new())?;
     assert_eq!(rt; cell.keep(), 4);
     let mut served = LeastServed::new();
-    served.served(Line::Credit, 1, 3, 1);
+    served.served(ListKind::Credit, 1, 3, 1);
     let Err(unmade) = Cell::new(5, served) else {
         return Err(Fail::new("keep 5"));
     };
     assert_eq!(rt; unmade.why, Refusal::KeepTooHigh);
-    assert_eq!(rt; unmade.chooser.count(Line::Credit, 1), Some(3));
+    assert_eq!(rt; unmade.chooser.count(ListKind::Credit, 1), Some(3));
     Ok(())
 }
 
@@ -309,12 +309,12 @@ fn joins_are_told_with_those_who_stayed(rt: HostRuntime) -> Result<(), Fail> {
     cell.turn()?;
     assert_eq!(rt; cell.session(0)?.lag, 10);
     assert_eq!(rt; cell.session(1)?.lag, -10);
-    assert_eq!(rt; cell.chooser().count(Line::Extra, 1), Some(40));
+    assert_eq!(rt; cell.chooser().count(ListKind::Extra, 1), Some(40));
     cell.open(2, 1)?;
-    assert_eq!(rt; cell.chooser().count(Line::Extra, 2), Some(0));
+    assert_eq!(rt; cell.chooser().count(ListKind::Extra, 2), Some(0));
     cell.arrive(2, frame(4, 5))?;
-    assert_eq!(rt; cell.chooser().count(Line::Extra, 2), Some(40));
+    assert_eq!(rt; cell.chooser().count(ListKind::Extra, 2), Some(40));
     cell.report(0, true)?;
-    assert_eq!(rt; cell.chooser().count(Line::Credit, 0), Some(0));
+    assert_eq!(rt; cell.chooser().count(ListKind::Credit, 0), Some(0));
     Ok(())
 }

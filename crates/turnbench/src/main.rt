@@ -1,8 +1,9 @@
-// Makes a million turns over 64 sessions that always wait on good channels, and says on the error output how long that took.
+//! Makes a million turns over 64 sessions that always wait on good channels, and says on the error
+//! output how long that took.
 #![tactic(auto)]
 
 use cell::Cell;
-use chooser::Chooser;
+use chooser::{Chooser, PLACES};
 use least_served::LeastServed;
 use queue::Frame;
 use std::io;
@@ -15,10 +16,10 @@ const RATE: u32 = 11_088;
 
 const LENGTH: u16 = 1_000;
 
-// Every place opens, with two frames. A refusal is not looked at, here and below: it would show in the turns and the mark.
+// Every place opens, with two frames. A refusal is not looked at, here and below: it would show in
+// the turns and the mark.
 fn fill<C: Chooser>(cell: &mut Cell<C>) {
-    // the number itself is what is opened
-    for place in 0..64 {
+    for place in 0..PLACES as u8 {
         let _ = cell.open(place, RATE);
         for _ in 0..2 {
             let _ = cell.arrive(place, frame(0));
@@ -43,7 +44,6 @@ fn frame(tag: u32) -> Frame {
 }
 
 fn main(rt: HostRuntime) -> io::Result<()> {
-    // no `new_cell` of `replay`: nothing is played
     let mut cell = Cell::new(2, LeastServed::new()).unwrap();
     fill(&mut cell);
     let start = Instant::now(&rt)?;
