@@ -1,10 +1,11 @@
 // Recordings that are played into the program's cell, and all that is printed. The lines follow from RULES.md and
 // RECORDS.md, and the reference prints them too.
-use super::play;
+use player::play_new;
 use std::alloc::Global;
+use std::io::{ErrorKind, Read, Write};
 use std::process::Abort;
-use std::str;
 use std::test::Fail;
+use std::{io, str};
 
 // A record's letter, place, length and value, and what is printed of it. Bytes and no `Event`: one letter is none of the six, and what is
 // expected does not come from the code that is tested.
@@ -20,8 +21,7 @@ fn prints(rt: &impl Abort, alloc: Global, rows: &[Row]) -> Result<(), Fail> {
         recording.extend_from_slice(b"--------")?;
         lines.push_str(line)?;
     }
-    let mut out = Vec::new(alloc);
-    play(&mut recording.as_slice(), &mut out)?;
+    let out = play_new(alloc, recording.as_slice(), Vec::new(alloc))?;
     assert_eq!(rt; str::from_utf8(&out)?, lines.as_str());
     Ok(())
 }
@@ -98,4 +98,56 @@ fn nothing_is_played_after_a_fault(rt: HostRuntime) -> Result<(), Fail> {
             (b'T', 0, 0, 0, ""),
         ],
     )
+}
+
+// Gives turns, and fails at the twentieth read.
+#[derive(Drop)]
+struct Failing {
+    reads: u8,
+}
+
+impl Read for Failing {
+    fn read(&mut self, buf: &mut [u8]) -> io::Result<usize> {
+        if self.reads >= 20 {
+            return Err(io::Error::from(ErrorKind::PermissionDenied));
+        }
+        if buf.len() < 16 {
+            return Ok(0);
+        }
+        self.reads += 1;
+        buf[..16].copy_from_slice(b"T\0\0\0\0\0\0\0--------");
+        Ok(16)
+    }
+}
+
+#[test]
+fn an_error_of_reading_comes_back(rt: HostRuntime) {
+    let played = play_new(rt.alloc(), Failing { reads: 0 }, Vec::new(rt.alloc()));
+    assert_eq!(rt;
+        played.err().map(|e| e.kind()),
+        Some(ErrorKind::PermissionDenied)
+    );
+}
+
+// Takes nothing.
+#[derive(Drop)]
+struct Full;
+
+impl Write for Full {
+    fn write(&mut self, _buf: &[u8]) -> io::Result<usize> {
+        Err(io::Error::from(ErrorKind::StorageFull))
+    }
+
+    fn flush(&mut self) -> io::Result<()> {
+        Ok(())
+    }
+}
+
+#[test]
+fn an_error_of_writing_comes_back(rt: HostRuntime) {
+    let played = play_new(rt.alloc(), b"X".as_slice(), Full);
+    assert_eq!(rt;
+        played.err().map(|e| e.kind()),
+        Some(ErrorKind::StorageFull)
+    );
 }

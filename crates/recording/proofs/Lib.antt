@@ -1,1 +1,5 @@
 pub mod Taken
+pub mod One
+pub mod Reading
+pub mod Left
+pub mod Limit

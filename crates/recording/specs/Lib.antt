@@ -1,1 +1,3 @@
 pub mod Taking
+pub mod Failures
+pub mod Recordings

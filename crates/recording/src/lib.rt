@@ -1,30 +1,38 @@
 // Reading a recording from an input, sixteen bytes at a time.
 #![tactic(auto)]
 
-ghost use Rattle.std.specs.Prelude.{◌≤◌, IfOk};
-ghost use Rattle.recording.specs.Taking.{Takes};
+ghost use Rattle.std.specs.Prelude.{◌≤◌, IfOk, OnErr};
+ghost use Rattle.recording.specs.Failures.{Notes};
+ghost use Rattle.recording.specs.Taking.{Takes, TakesSome};
 
+use record::RECORD;
 use std::io;
 use std::io::Read;
 
+mod noted;
 mod records;
 
+pub use noted::Noted;
 pub use records::{Record, Records};
 
-// How many records are read at most, and the bytes that they have.
+/// How many records of a recording are read at most.
 pub const RECORDS: u64 = 1_000_000;
 
-pub const BYTES: u64 = 16 * RECORDS;
+/// How many bytes they have.
+pub const BYTES: u64 = RECORD as u64 * RECORDS;
 
-// Reads until the sixteen bytes are full or the input ends, and says how many there are, as `read_exact` would not.
-#[tactic(auto, using(crate::proofs::Taken::taken_more))]
-pub fn fill<R: Read>(reader: &mut R, bytes: &mut [u8; 16]) -> io::Result<usize>
-    ensures size { IfOk result (λ n. n ≤ 16) }
-    ensures bytes { IfOk result (Takes (R.remaining reader.old) (R.remaining reader.new) bytes.new) }
+/// Reads until the sixteen bytes are full or the input ends, and answers how many there are, as `read_exact` would not. It
+/// succeeds unless a read failed, and the error is that read's.
+#[tactic(auto, using(crate::proofs::Taken::taken_more, crate::proofs::Taken::taken_some))]
+pub fn fill<R: Read>(reader: &mut Noted<R>, bytes: &mut [u8; RECORD]) -> io::Result<usize>
+    ensures size { IfOk result (λ n. n ≤ RECORD) }
+    ensures bytes { IfOk result (Takes (R.remaining reader.old.inner) (R.remaining reader.new.inner) bytes.new) }
+    ensures err { OnErr result (TakesSome (R.remaining reader.old.inner) (R.remaining reader.new.inner)) }
+    ensures failure { Notes reader.old.failure reader.new.failure result }
 {
     let mut at = 0;
-    while at < 16 {
-        let n = reader.read(&mut bytes[at..16])?;
+    while at < RECORD {
+        let n = reader.read(&mut bytes[at..RECORD])?;
         if n == 0 {
             break;
         }
@@ -61,7 +69,7 @@ mod tests {
     #[test]
     fn one_byte_at_a_time(rt: HostRuntime) -> Result<(), Fail> {
         for (end, full) in [(0, 0), (1, 1), (15, 15), (16, 16), (40, 16)] {
-            let mut reader = Slow { given: 0, end };
+            let mut reader = Noted::new(Slow { given: 0, end });
             let mut bytes = [0u8; 16];
             let n = fill(&mut reader, &mut bytes)?;
             assert_eq!(rt; n, full);
@@ -76,11 +84,14 @@ mod tests {
     #[test]
     fn in_order(rt: HostRuntime) -> Result<(), Fail> {
         let mut records = Records::new(Slow { given: 0, end: 40 });
-        for (number, size, first) in [(1, 16, 1), (2, 16, 17), (3, 8, 33), (4, 0, 0)] {
+        for (number, size, first) in [(1, 16, 1), (2, 16, 17), (3, 8, 33)] {
             let record = records.next().ok_or("no record")??;
             assert_eq!(rt; record.number, number);
             assert_eq!(rt; record.bytes().len(), size);
-            assert_eq!(rt; record.bytes().first().copied().unwrap_or(0), first);
+            assert_eq!(rt; record.bytes().first().copied(), Some(first));
+        }
+        for _ in 0..2 {
+            assert!(rt; records.next().is_none());
         }
         Ok(())
     }

@@ -1,2 +1,3 @@
 pub mod Events
 pub mod Playing
+pub mod Promised
