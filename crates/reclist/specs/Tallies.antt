@@ -1,8 +1,9 @@
 -- What a recording adds up to: its records by letter, and the bytes of the frames that it offers.
-use Rattle.std.specs.Prelude.{ℕ, ◌+◌, ◌*◌, ◌≤◌}
+use Rattle.std.specs.Prelude.{ℕ, ◌+◌, ◌*◌, ◌≤◌, List, [], ◌∷◌}
 use Rattle.record.specs.Layout.{Contents}
 use Rattle.record.specs.declared.letter.Letter.{Letter}
 use Rattle.record.specs.declared.letter.Letter.TheVariants.{O, C, A, G, B, T}
+use Rattle.recording.specs.declared.TheConstants.{RECORDS}
 
 pub record Counts : Type 0 where
   pub opened : ℕ
@@ -34,7 +35,12 @@ more t T n = counts t.opened t.closed t.arrived t.good t.bad (t.turns + 1) t.byt
 abbrev pub counted : Counts → Contents → Counts
 counted t c = more t c.letter c.length
 
--- a million records at most, each with no more bytes than a length can say
+-- and each event of some
+unfoldable pub tallied : Counts → List Contents → Counts
+tallied t [] = t
+tallied t (c ∷ cs) = tallied (counted t c) cs
+
+-- as many records as are read at most, each with no more bytes than a length can say
 pub record Small (t : Counts) : Type 0 where
-  pub few : records t ≤ 1000000
+  pub few : records t ≤ RECORDS
   pub short : t.bytes ≤ 65535 * t.arrived

@@ -1,9 +1,11 @@
 // What a recording adds up to.
-ghost use Rattle.std.specs.Prelude.{◌≡◌, ◌+◌, ◌<◌};
+ghost use Rattle.std.specs.Prelude.{◌≡◌, ◌+◌, ◌<◌, Some};
 ghost use Rattle.record.specs.Layout.{contents};
+ghost use Rattle.reclist.specs.Listing.{radio_words, station_words, total_words};
 ghost use Rattle.reclist.specs.Tallies.{Counts, Small, counted, counts, empty, records as all_records};
 
-use record::{Call, Event};
+use record::Event;
+use recording::RECORDS;
 use std::fmt;
 use std::marker::Model;
 
@@ -43,38 +45,82 @@ impl Tally {
 
     // Counts one more event.
     pub(crate) fn count(&mut self, event: Event)
-        requires { all_records self.old < 1000000 }
+        requires { all_records self.old < RECORDS }
         ensures after { self.new ≡ counted self.old (contents event.entry) }
         ensures one_more { all_records self.new ≡ all_records self.old + 1 }
     {
-        match event.call {
-            Call::Open { .. } => self.opened += 1,
-            Call::Close { .. } => self.closed += 1,
-            Call::Arrive { length, .. } => {
+        match event {
+            Event::Open { .. } => self.opened += 1,
+            Event::Close { .. } => self.closed += 1,
+            Event::Arrive { length, .. } => {
                 self.arrived += 1;
                 self.bytes += u64::from(length);
             }
-            Call::Good { .. } => self.good += 1,
-            Call::Bad { .. } => self.bad += 1,
-            Call::Turn => self.turns += 1,
+            Event::Good { .. } => self.good += 1,
+            Event::Bad { .. } => self.bad += 1,
+            Event::Turn { .. } => self.turns += 1,
         }
     }
 }
 
-impl fmt::Display for Tally {
+// What crews and stations asked for.
+#[derive(Drop)]
+struct Stations {
+    opened: u64,
+    closed: u64,
+    arrived: u64,
+}
+
+impl fmt::Display for Stations {
+    ghost output = { λ stations. Some (station_words stations.opened stations.closed stations.arrived) };
+
     fn fmt<W: fmt::Write>(&self, f: &mut fmt::Formatter<W>) -> fmt::Result {
-        let Tally {
+        let Stations {
             opened,
             closed,
             arrived,
-            good,
-            bad,
-            turns,
-            bytes,
-        } = self;
+        } = *self;
+        write!(f, "{opened} O, {closed} C, {arrived} A")
+    }
+}
+
+// What the radio reported and asked for.
+#[derive(Drop)]
+struct Radio {
+    good: u64,
+    bad: u64,
+    turns: u64,
+}
+
+impl fmt::Display for Radio {
+    ghost output = { λ radio. Some (radio_words radio.good radio.bad radio.turns) };
+
+    fn fmt<W: fmt::Write>(&self, f: &mut fmt::Formatter<W>) -> fmt::Result {
+        let Radio { good, bad, turns } = *self;
+        write!(f, "{good} G, {bad} B, {turns} T")
+    }
+}
+
+// The records in all, by letter, and the bytes.
+impl fmt::Display for Tally {
+    ghost output = { λ tally. Some (total_words tally) };
+
+    fn fmt<W: fmt::Write>(&self, f: &mut fmt::Formatter<W>) -> fmt::Result {
+        let records = self.records();
+        let stations = Stations {
+            opened: self.opened,
+            closed: self.closed,
+            arrived: self.arrived,
+        };
+        let radio = Radio {
+            good: self.good,
+            bad: self.bad,
+            turns: self.turns,
+        };
+        let bytes = self.bytes;
         write!(
             f,
-            "{opened} O, {closed} C, {arrived} A, {good} G, {bad} B, {turns} T; {bytes} bytes offered"
+            "{records} records: {stations}, {radio}; {bytes} bytes offered"
         )
     }
 }

@@ -1,0 +1,13 @@
+use Rattle.notation.specs.Calls.{worded}
+use Rattle.notation.proofs.Fronts.{or_as}
+use Rattle.notation.proofs.calls.call_in_words.Goals as goal
+
+pub returns : goal.returns
+unfolding worded
+returns c =
+    or_as _ _ _ _ _ c.or-5.ensures
+    (or_as _ _ _ _ _ c.or-4.ensures
+    (or_as _ _ _ _ _ c.or-3.ensures
+    (or_as _ _ _ _ _ c.or-2.ensures
+    (or_as _ _ _ _ _ c.or.ensures c.turn.ensures c.opening_in_words.ensures)
+    c.closing.ensures) c.arrival.ensures) c.good.ensures) c.bad.ensures
