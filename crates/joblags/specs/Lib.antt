@@ -1,3 +1,3 @@
 pub mod Balances
 pub mod Sheets
-pub mod Words
+pub mod Jobs

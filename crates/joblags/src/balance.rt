@@ -1,9 +1,8 @@
 // What a lag says.
 ghost use Rattle.std.specs.Prelude.{◌≡◌};
-ghost use Rattle.joblags.specs.Balances.{balance_of};
+ghost use Rattle.joblags.specs.Balances.{balance_of, balance_word};
 
 use std::cmp::Ordering;
-use std::fmt;
 
 // `Ordering` has no words to print.
 #[derive(Clone, Copy, PartialEq, Eq, Debug)]
@@ -27,13 +26,15 @@ impl From<i64> for Balance {
     }
 }
 
-// In one word, so that every line of a sheet has as many.
-impl fmt::Display for Balance {
-    fn fmt<W: fmt::Write>(&self, f: &mut fmt::Formatter<W>) -> fmt::Result {
-        f.pad(match self {
+impl Balance {
+    // One word each, so that every line of a sheet has as many.
+    pub(crate) fn word(self) -> &'static str
+        ensures { result.now ≡ balance_word self }
+    {
+        match self {
             Balance::Owed => "owed",
             Balance::Ahead => "ahead",
             Balance::Even => "-",
-        })
+        }
     }
 }

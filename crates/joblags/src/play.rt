@@ -1,17 +1,28 @@
 // Playing a recording, with a sheet whenever one is due.
-use crate::asked::due;
+ghost use Rattle.std.specs.Prelude.{◌≡◌, IfOk, IfSome, OnOk, Some, length};
+ghost use Rattle.std.specs.Io.KnownBytes.{Appends};
+ghost use Rattle.cell.specs.View.{view};
+ghost use Rattle.model.specs.History.{after};
+ghost use Rattle.chooser.specs.Meaning.{meant};
+ghost use Rattle.recording.specs.Recordings.{recording};
+ghost use Rattle.replay.specs.Events.{calls_in};
+ghost use Rattle.joblags.specs.Jobs.{due_sheet, due_sheets, job_text, last_sheet, stopped_line, stopped_words};
+
+use crate::due::due;
 use crate::sheet::Sheet;
 use answer::Fault;
 use cell::Cell;
 use chooser::Chooser;
-use recording::Records;
-use replay::play_record;
-use std::io::{Read, Write};
+use record::Call;
+use recording::{BYTES, RECORDS, Records};
+use replay::call;
+use std::alloc::Global;
+use std::io::{BufReader, BufWriter, Read, Write};
 use std::num::NonZeroU64;
 use std::{fmt, io};
 
 // How a recording ended: the records that were played, and the fault of the next one.
-#[derive(Drop)]
+#[derive(Clone, Copy)]
 struct End {
     played: u64,
     fault: Option<Fault>,
@@ -22,6 +33,8 @@ struct End {
 struct Stopped(Fault);
 
 impl fmt::Display for Stopped {
+    ghost output = { λ stopped. Some (stopped_words stopped.0) };
+
     fn fmt<W: fmt::Write>(&self, f: &mut fmt::Formatter<W>) -> fmt::Result {
         let Fault {
             refusal,
@@ -34,55 +47,123 @@ impl fmt::Display for Stopped {
     }
 }
 
-// Prints how the cell stands after so many records.
-fn print<C, W: Write>(cell: &Cell<C>, after: u64, out: &mut W) -> io::Result<()> {
+// Prints how the cell stands after so many records, if a sheet is due then.
+fn print_due<C, W: Write>(
+    cell: &Cell<C>,
+    every: Option<NonZeroU64>,
+    after: u64,
+    out: &mut W,
+) -> io::Result<()>
+    ensures { OnOk result (Appends (W.contents out.old) (W.contents out.new) (due_sheet every after (view cell.now))) }
+{
+    if !due(every, after) {
+        return Ok(());
+    }
     write!(out, "{}", Sheet { after, cell })
+}
+
+// Prints how it stands at the end, unless that was due anyway.
+fn print_last<C, W: Write>(
+    cell: &Cell<C>,
+    every: Option<NonZeroU64>,
+    after: u64,
+    out: &mut W,
+) -> io::Result<()>
+    ensures { OnOk result (Appends (W.contents out.old) (W.contents out.new) (last_sheet every after (view cell.now))) }
+{
+    if due(every, after) {
+        return Ok(());
+    }
+    write!(out, "{}", Sheet { after, cell })
+}
+
+// Prints why nothing more was played, if there is a reason.
+fn print_fault<W: Write>(fault: Option<Fault>, out: &mut W) -> io::Result<()>
+    ensures { OnOk result (Appends (W.contents out.old) (W.contents out.new) (stopped_line fault)) }
+{
+    match fault {
+        Some(fault) => writeln!(out, "{}", Stopped(fault)),
+        None => Ok(()),
+    }
 }
 
 // Plays the records up to the end, a fault of a record or the limit, with the sheets that are due meanwhile. (A struct of
 // cell, `every`, input and output would be made in `main` for one call, and taken apart here.)
-fn play_all<C: Chooser, R: Read, W: Write>(
+fn play_all<C: Chooser, R: Read + Drop, W: Write>(
     cell: &mut Cell<C>,
     every: Option<NonZeroU64>,
-    reader: &mut R,
+    reader: R,
     out: &mut W,
-) -> io::Result<End> {
+) -> io::Result<End>
+    ensures sheets { OnOk result (IfSome (R.remaining reader) (λ bytes.
+        Appends (W.contents out.old) (W.contents out.new)
+        (due_sheets (meant C.Chooser) every (view cell.old) 0 (recording RECORDS 1 bytes).events))) }
+    ensures after { OnOk result (IfSome (R.remaining reader) (λ bytes.
+        view cell.new ≡ after (meant C.Chooser) (view cell.old) (calls_in (recording RECORDS 1 bytes).events))) }
+    ensures end { IfOk result (λ end. IfSome (R.remaining reader) (λ bytes.
+        (end.played ≡ length (recording RECORDS 1 bytes).events) × (end.fault ≡ (recording RECORDS 1 bytes).fault))) }
+{
     let mut played = 0;
     for record in Records::new(reader) {
         let record = record?;
-        match play_record(cell, record.bytes(), record.number) {
-            Ok(None) => break,
-            Ok(Some(_)) => played = record.number,
+        match record.event() {
+            Ok(event) => {
+                let _ = call(cell, Call::from(event));
+                played = record.number;
+                print_due(cell, every, played, out)?;
+            }
             Err(fault) => {
-                return Ok(End {
-                    played,
-                    fault: Some(fault),
-                });
+                let fault = Some(fault);
+                return Ok(End { played, fault });
             }
         }
-        if due(every, played) {
-            print(cell, played, out)?;
-        }
     }
-    Ok(End {
-        played,
-        fault: None,
-    })
+    let fault = None;
+    Ok(End { played, fault })
 }
 
-// Plays a recording and ends with its last sheet, unless that was due anyway.
-pub(crate) fn play<C: Chooser, R: Read, W: Write>(
+// Plays a recording and ends with its last sheet, unless that was due anyway; answers the fault that ended it.
+fn play<C: Chooser, R: Read + Drop, W: Write>(
     cell: &mut Cell<C>,
     every: Option<NonZeroU64>,
-    reader: &mut R,
+    reader: R,
     out: &mut W,
-) -> io::Result<()> {
-    let End { played, fault } = play_all(cell, every, reader, out)?;
-    if let Some(fault) = fault {
-        writeln!(out, "{}", Stopped(fault))?;
-    }
-    if !due(every, played) {
-        print(cell, played, out)?;
-    }
-    Ok(())
+) -> io::Result<Option<Fault>>
+    ensures text { OnOk result (IfSome (R.remaining reader) (λ bytes.
+        Appends (W.contents out.old) (W.contents out.new)
+        (job_text (meant C.Chooser) every (view cell.old) (recording RECORDS 1 bytes)))) }
+    ensures after { OnOk result (IfSome (R.remaining reader) (λ bytes.
+        view cell.new ≡ after (meant C.Chooser) (view cell.old) (calls_in (recording RECORDS 1 bytes).events))) }
+    ensures fault { IfOk result (λ fault. IfSome (R.remaining reader) (λ bytes.
+        fault ≡ (recording RECORDS 1 bytes).fault)) }
+{
+    let end = play_all(cell, every, reader, out)?;
+    print_fault(end.fault, out)?;
+    print_last(cell, every, end.played, out)?;
+    Ok(end.fault)
+}
+
+// Plays the records of an input, and gives the output back with all of the sheets written out, with the fault that ended
+// the recording.
+pub(crate) fn play_through<C: Chooser, R: Read + Drop, W: Write + Drop>(
+    alloc: Global,
+    cell: &mut Cell<C>,
+    every: Option<NonZeroU64>,
+    input: R,
+    out: W,
+) -> io::Result<(W, Option<Fault>)>
+    ensures text { IfOk result (λ played. IfSome (R.remaining input) (λ bytes.
+        Appends (W.contents out) (W.contents played.0)
+        (job_text (meant C.Chooser) every (view cell.old) (recording RECORDS 1 bytes)))) }
+    ensures after { OnOk result (IfSome (R.remaining input) (λ bytes.
+        view cell.new ≡ after (meant C.Chooser) (view cell.old) (calls_in (recording RECORDS 1 bytes).events))) }
+    ensures fault { IfOk result (λ played. IfSome (R.remaining input) (λ bytes.
+        played.1 ≡ (recording RECORDS 1 bytes).fault)) }
+{
+    let reader = BufReader::new(alloc, input.take(BYTES))?;
+    let mut writer = BufWriter::new(alloc, out)?;
+    let fault = play(cell, every, reader, &mut writer)?;
+    writer.flush()?;
+    let (out, _) = writer.into_parts();
+    Ok((out, fault))
 }

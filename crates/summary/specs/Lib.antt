@@ -1,0 +1,5 @@
+pub mod Counting
+pub mod Getting
+pub mod Adding
+pub mod Places
+pub mod Table
