@@ -1,19 +1,23 @@
 #!/bin/sh
-# Plays random recordings into cellplay, into the C library and into the reference, and
-# compares byte for byte: cellplay's lines with the reference's, and the lines and whole
-# states that c/states.c has from the library with the reference's. Stops at the first
-# difference. docs/COMPARISON.md tells what has been seen.
+# Plays random recordings into cellplay, into hallplay, into the C library and into the
+# reference, and compares byte for byte: cellplay's lines with the reference's, and the lines
+# and whole states that hallplay prints with both choosers, and those that c/states.c has from
+# the library, with the reference's. Stops at the first difference. docs/COMPARISON.md tells
+# what has been seen.
 #
 #   docs/src/compare.sh [options]
 #
 #   --cellplay PATH  the program (crates/cellplay/out/cellplay); none: lines from the library only
-#   --library PATH   the C library (c/out/libdalgweniz.a); none: no states
-#   --build          first make both: rt run in cellplay, c/make_library.sh
+#   --hallplay PATH  the program (crates/hallplay/out/hallplay), with both choosers; none: without it
+#   --library PATH   the C library (c/out/libdalgweniz.a); none: without it
+#   --build          first make all three: rt run in cellplay and hallplay, c/make_library.sh
+#   --keep K         the keep of all recordings (2), but for some that have another one anyway;
+#                    cellplay is left out of those that haven't 2
 #   --records N      how many to play, at least (20,000,000)
 #   --every N        a state after every Nth record of the long recordings (10)
 #   --seed S         the first seed (1); each round of profiles takes the next
 #   --reference F    another source of the reference
-#   --self           the reference with --check in cellplay's place, and no library
+#   --self           the reference with --check in cellplay's place, and nothing else
 #   --planted        compare with copies of the reference that have one bug each, at most
 #                    so many records: lines and states have to find every one
 #
@@ -23,11 +27,13 @@
 here=$(cd "$(dirname "$0")" && pwd) || exit 2
 root=$(cd "$here/../.." && pwd) || exit 2
 cellplay=$root/crates/cellplay/out/cellplay
+hallplay=$root/crates/hallplay/out/hallplay
 library=$root/c/out/libdalgweniz.a
 reference=$here/reference.rs
 wanted=20000000
 every=10
 seed=1
+keep=2
 build=no
 planted=no
 profiles="hall fades leads departures chains reopen full idle ties rates extremes refusals mixed"
@@ -41,12 +47,14 @@ while [ $# -gt 0 ]; do
     case $1 in
     --build) build=yes ;;
     --planted) planted=yes ;;
-    --self) cellplay=self && library=none ;;
-    --cellplay | --library | --reference | --records | --every | --seed)
+    --self) cellplay=self && hallplay=none && library=none ;;
+    --cellplay | --hallplay | --library | --keep | --reference | --records | --every | --seed)
         [ $# -gt 1 ] || stop "$1 needs a value"
         case $1 in
         --cellplay) cellplay=$2 ;;
+        --hallplay) hallplay=$2 ;;
         --library) library=$2 ;;
+        --keep) keep=$2 ;;
         --reference) reference=$2 ;;
         --records) wanted=$2 ;;
         --every) every=$2 ;;
@@ -60,12 +68,15 @@ while [ $# -gt 0 ]; do
 done
 
 if [ $build = yes ]; then
-    (cd "$root/crates/cellplay" && rt run < /dev/null) && "$root/c/make_library.sh" || stop "not built"
+    (cd "$root/crates/cellplay" && rt run < /dev/null) &&
+        (cd "$root/crates/hallplay" && rt run < /dev/null) &&
+        "$root/c/make_library.sh" || stop "not built"
 fi
 case $cellplay in
 none | self) ;;
 *) [ -x "$cellplay" ] || stop "no program $cellplay" ;;
 esac
+[ "$hallplay" = none ] || [ -x "$hallplay" ] || stop "no program $hallplay"
 [ "$library" = none ] || [ -f "$library" ] || stop "no library $library"
 
 dir=$(mktemp -d) || exit 2
@@ -89,8 +100,8 @@ plant() {
         print
     } END { exit n != 1 }' "$here/reference.rs" > "$dir/bug.rs" || stop "\"$2\" doesn't stand once in reference.rs"
     lines=- states=-
-    [ "$cellplay" = none ] || lines=$(seek --cellplay "$cellplay" --library none)
-    [ "$library" = none ] || states=$(seek --cellplay none --library "$library" --every 1)
+    [ "$cellplay" = none ] || lines=$(seek --cellplay "$cellplay" --hallplay none --library none)
+    [ "$library" = none ] || states=$(seek --cellplay none --hallplay none --library "$library" --every 1)
     [ -n "$lines" ] && [ -n "$states" ] || missed=$((missed + 1))
     echo "| $1 | ${lines:-not found} | ${states:-not found} |"
 }
@@ -186,10 +197,34 @@ compare_states() {
     [ $status = 0 ] || different "$(cat "$dir/said")" "$1" 0
 }
 
+# The same through hallplay, with both choosers. It ends with status 1 where not all was played.
+compare_told() {
+    for chooser in least-served largest-debt; do
+        "$dir/reference" --keep "$3" --chooser "${chooser%%-*}" --state "$2" --tally \
+            < "$dir/recording" > "$dir/expected" 2> "$dir/tally_$chooser" || stop "the reference failed"
+        "$hallplay" --keep "$3" --chooser "$chooser" --states "$2" < "$dir/recording" > "$dir/played" 2> "$dir/said"
+        status=$?
+        found=$(cmp "$dir/expected" "$dir/played" 2>&1)
+        if [ -n "$found" ]; then
+            line=${found##*line }
+            different "hallplay (keep $3, $chooser, after every $2)" "$1" \
+                "$(head -n "$line" "$dir/expected" | grep -c '^[0-9]')" \
+                "played:   $(sed -n "${line}p" "$dir/played")" "expected: $(sed -n "${line}p" "$dir/expected")" \
+                "$(cat "$dir/said")"
+        fi
+        early=$(grep -c -e '^fault ' -e '^1000000 ' "$dir/expected")
+        [ $status = "$early" ] || different "hallplay's status $status ($(cat "$dir/said"))" "$1" 0
+    done
+    cp "$dir/tally_least-served" "$dir/tally"
+}
+
 # Compares $dir/recording. $1: its name, $2: its profile, $3: N of the states, $4: the keep.
 same() {
     if [ "$cellplay" != none ] && [ "$4" = 2 ]; then
         compare_lines "$1"
+    fi
+    if [ "$hallplay" != none ]; then
+        compare_told "$1" "$3" "$4"
     fi
     if [ "$library" != none ]; then
         compare_states "$1" "$3" "$4"
@@ -259,19 +294,19 @@ size=$((wanted / 200))
 [ "$size" -lt 100000 ] || size=100000
 while [ "$records" -lt "$wanted" ]; do
     for profile in $profiles; do
-        random "$seed" $((size / 50)) "$profile" 1 2
-        random "$((seed + 1000000))" "$size" "$profile" "$every" 2
+        random "$seed" $((size / 50)) "$profile" 1 "$keep"
+        random "$((seed + 1000000))" "$size" "$profile" "$every" "$keep"
     done
     for part in 0 1 2 3 4 5 6 7 8 9; do
         for more in 0 1 2 3 4; do
-            random "$((seed * 1000 + part * 10 + more))" 300 damaged 1 2
+            random "$((seed * 1000 + part * 10 + more))" 300 damaged 1 "$keep"
         done
     done
-    # cellplay has keep 2; the library takes the others.
-    if [ "$library" != none ]; then
-        for keep in 0 1 3 4; do
-            random "$((seed * 10 + keep))" $((size / 4)) mixed "$every" $keep
-            random "$((seed * 10 + keep))" $((size / 4)) leads "$every" $keep
+    # cellplay has keep 2; the others take any.
+    if [ "$library" != none ] || [ "$hallplay" != none ]; then
+        for other in 0 1 3 4; do
+            random "$((seed * 10 + other))" $((size / 4)) mixed "$every" $other
+            random "$((seed * 10 + other))" $((size / 4)) leads "$every" $other
         done
     fi
     echo "seed $seed: $records records the same" >&2
