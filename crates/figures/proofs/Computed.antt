@@ -9,6 +9,7 @@ use Rattle.model.specs.Cell.{mark_after, joins_from, joins, all_joins, settled}
 use Rattle.model.specs.Calls.{turn_after, accepted, step}
 use Rattle.model.specs.History.{after}
 use Rattle.model.proofs.Figures.{worked}
+use Rattle.figures.specs.Bounds.{TheLimits}
 use Rattle.figures.specs.Run.{answers}
 use Rattle.figures.specs.Figures.{AllFigures}
 use Rattle.figures.specs.Twelfth.{TwelfthFigures}
@@ -30,9 +31,23 @@ steps : ℕ
 unfolding turn_after accepted step after
 steps = 0
 
+limits : TheLimits
+limits = record {
+  place_count = refl;
+  longest_frame = refl;
+  frames_waiting = refl;
+  turns = refl;
+  idle_turn = refl;
+  whole_charge = refl;
+  units = refl;
+  furthest_time = refl;
+  furthest_lag = refl;
+}
+
 pub all_figures : AllFigures
 unfolding offers tables calls steps answers
 all_figures = record {
+  limits = limits;
   worked = worked _;
   tie = refl;
   lower = refl;

@@ -8,6 +8,7 @@ use Rattle.least_served.specs.Meaning.{least_served_meaning}
 use Rattle.tariff.specs.Tariff.{price_of}
 use Rattle.model.specs.Table.{at}
 use Rattle.model.specs.Figures.{FiguresStand}
+use Rattle.figures.specs.Bounds.{TheLimits}
 use Rattle.figures.specs.Run.{new_cell, run, run_answers, answers}
 use Rattle.figures.specs.Twelfth.{twelfth}
 
@@ -22,6 +23,8 @@ abbrev pub owed_9 : Entry
 owed_9 = offered (pos 9) 18 (price_of 18)
 
 pub record AllFigures : Type 0 where
+  -- the limits, as numbers
+  pub limits : TheLimits
   -- prices, refusals, shares of a departing lag, and the bound of a share
   pub worked : FiguresStand least_served_meaning
   -- debts of 10 at rate 20 and of 9 at rate 18 tie, so that the lower place is picked, whoever

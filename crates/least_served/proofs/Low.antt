@@ -8,13 +8,14 @@ use Rattle.chooser.specs.declared.entry.ListKind.{ListKind}
 use Rattle.chooser.specs.declared.entry.ListKind.TheVariants.{Credit, Extra}
 use Rattle.chooser.specs.Tellings.{Telling, served, joined, cleared, told, told_all, serving, servings}
 use Rattle.chooser.specs.Offers.{sound}
+use Rattle.chooser.specs.Meaning.{Meaning}
 use Rattle.chooser.proofs.Meant.{if_sound_both}
 use Rattle.chooser.proofs.Sound.{price_bound}
 use Rattle.least_served.specs.declared.counts.LeastServed.{LeastServed}
 use Rattle.least_served.specs.Served.{unserved, count_at, with_count, least_served, raised, joined_count}
 use Rattle.least_served.specs.Served.{stopped, countable, after_served, after_joined, after_cleared}
-use Rattle.least_served.specs.Meaning.{least_served_with, least_served_meaning}
-use Rattle.least_served.specs.Stops.{CountsStayLow, NeverStops}
+use Rattle.least_served.specs.Meaning.{least_served_meaning}
+use Rattle.least_served.specs.Stops.{CountsLow, NoStop, CountsStayLow, NeverStops}
 
 -- no count is above b
 abbrev pub Within : ℕ → LeastServed → Type 0
@@ -96,44 +97,74 @@ served_exact b c list place length price low far =
     (λ f. cond-false (countable place length price) _ c f ∙ sym (cond-false (countable place length price) _ c f))
     (cases_Bool (countable place length price))
 
--- ---- any telling, and any list of them
-told_low : (n : ℕ) (c : LeastServed) (t : Telling)
-    → Within (most * n) c → Within (most * (serving t + n)) (told least_served_meaning c t)
-told_low n c (served list place length price) low =
-    within_more (most + most * n) (most * (1 + n)) _ (omega arith)
-    (served_low (most * n) c list place length price low)
-told_low n c (joined list place es) low =
-    within_more (most * n) (most * (0 + n)) _ (omega arith)
-    (if_sound_both (Within (most * n)) c (λ o. after_joined c list place o.entries) low
-    (λ o. joined_low (most * n) c list place o.entries low) es (sound es) refl)
-told_low n c (cleared place) low =
-    within_more (most * n) (most * (0 + n)) _ (omega arith) (cleared_low (most * n) c place low)
+-- ---- any telling, and any list of them, where a join raises no count above the largest
+abbrev pub JoinsLow : (LeastServed → ListKind → ℕ → List Entry → LeastServed) → Type 0
+JoinsLow join =
+    (b : ℕ) (c : LeastServed) (list : ListKind) (place : ℕ) (es : List Entry)
+    → Within b c → Within b (join c list place es)
 
-told_exact : (n : ℕ) (c : LeastServed) (t : Telling) → Within (most * n) c → serving t + n ≤ 2000000000
-    → told least_served_meaning c t ≡ told (least_served_with (λ m. m)) c t
-told_exact n c (served list place length price) low few =
-    served_exact (most * n) c list place length price low (omega arith)
-told_exact n c (joined list place es) low few = refl
-told_exact n c (cleared place) low few = refl
+module _ (pick : LeastServed → ListKind → List Entry → Option ℕ)
+    (join : LeastServed → ListKind → ℕ → List Entry → LeastServed) (h : JoinsLow join) where
+  abbrev pub joining : (ℕ → ℕ) → Meaning LeastServed
+  joining stop =
+      record { pick = pick; served = after_served stop; joined = join; cleared = after_cleared }
 
-told_all_low : (n : ℕ) (c : LeastServed) (ts : List Telling)
-    → Within (most * n) c → Within (most * (servings ts + n)) (told_all least_served_meaning c ts)
-told_all_low n c [] low = within_more (most * n) (most * (0 + n)) c (omega arith) low
-told_all_low n c (t ∷ ts) low =
-    within_more (most * (servings ts + (serving t + n))) (most * (serving t + servings ts + n)) _
-    (omega arith)
-    (told_all_low (serving t + n) (told least_served_meaning c t) ts (told_low n c t low))
+  told_low : (n : ℕ) (c : LeastServed) (t : Telling)
+      → Within (most * n) c → Within (most * (serving t + n)) (told (joining stopped) c t)
+  told_low n c (served list place length price) low =
+      within_more (most + most * n) (most * (1 + n)) _ (omega arith)
+      (served_low (most * n) c list place length price low)
+  told_low n c (joined list place es) low =
+      within_more (most * n) (most * (0 + n)) _ (omega arith) (h (most * n) c list place es low)
+  told_low n c (cleared place) low =
+      within_more (most * n) (most * (0 + n)) _ (omega arith) (cleared_low (most * n) c place low)
 
-told_all_exact : (n : ℕ) (c : LeastServed) (ts : List Telling)
-    → Within (most * n) c → servings ts + n ≤ 2000000000
-    → told_all least_served_meaning c ts ≡ told_all (least_served_with (λ m. m)) c ts
-told_all_exact n c [] low few = refl
-told_all_exact n c (t ∷ ts) low few =
-    told_all_exact (serving t + n) (told least_served_meaning c t) ts (told_low n c t low) (omega arith)
-    ∙ ap (λ x. told_all (least_served_with (λ m. m)) x ts) (told_exact n c t low (omega arith))
+  told_exact : (n : ℕ) (c : LeastServed) (t : Telling)
+      → Within (most * n) c → serving t + n ≤ 2000000000
+      → told (joining stopped) c t ≡ told (joining (λ m. m)) c t
+  told_exact n c (served list place length price) low few =
+      served_exact (most * n) c list place length price low (omega arith)
+  told_exact n c (joined list place es) low few = refl
+  told_exact n c (cleared place) low few = refl
+
+  told_all_low : (n : ℕ) (c : LeastServed) (ts : List Telling)
+      → Within (most * n) c → Within (most * (servings ts + n)) (told_all (joining stopped) c ts)
+  told_all_low n c [] low = within_more (most * n) (most * (0 + n)) c (omega arith) low
+  told_all_low n c (t ∷ ts) low =
+      within_more (most * (servings ts + (serving t + n))) (most * (serving t + servings ts + n)) _
+      (omega arith)
+      (told_all_low (serving t + n) (told (joining stopped) c t) ts (told_low n c t low))
+
+  told_all_exact : (n : ℕ) (c : LeastServed) (ts : List Telling)
+      → Within (most * n) c → servings ts + n ≤ 2000000000
+      → told_all (joining stopped) c ts ≡ told_all (joining (λ m. m)) c ts
+  told_all_exact n c [] low few = refl
+  told_all_exact n c (t ∷ ts) low few =
+      told_all_exact (serving t + n) (told (joining stopped) c t) ts (told_low n c t low)
+      (omega arith)
+      ∙ ap (λ x. told_all (joining (λ m. m)) x ts) (told_exact n c t low (omega arith))
+
+  pub counts_low : CountsLow joining
+  counts_low ts list place =
+      let low = told_all_low 0 unserved ts unserved_low list place in omega arith
+
+  pub no_stop : NoStop joining
+  no_stop ts few = told_all_exact 0 unserved ts unserved_low (omega arith)
+
+-- a list that is not sound changes nothing
+sound_joins_low : JoinsLow least_served_meaning.joined
+sound_joins_low b c list place es low =
+    if_sound_both (Within b) c (λ o. after_joined c list place o.entries) low
+    (λ o. joined_low b c list place o.entries low) es (sound es) refl
 
 pub counts_stay_low : CountsStayLow
-counts_stay_low ts list place = let h = told_all_low 0 unserved ts unserved_low list place in omega arith
+counts_stay_low = record {
+  as_meant = counts_low least_served_meaning.pick least_served_meaning.joined sound_joins_low;
+  of_any_list = counts_low least_served after_joined joined_low;
+}
 
 pub never_stops : NeverStops
-never_stops ts few = told_all_exact 0 unserved ts unserved_low (omega arith)
+never_stops = record {
+  as_meant = no_stop least_served_meaning.pick least_served_meaning.joined sound_joins_low;
+  of_any_list = no_stop least_served after_joined joined_low;
+}

@@ -1,7 +1,7 @@
 -- Least served: each place has two counts, one for each list, of the service that it has had from
 -- that list, in bytes times price. The offered place with the smallest count is picked, the lower
 -- place on a tie.
-use Rattle.std.specs.Prelude.{◌≡◌, ℕ, ◌+◌, ◌*◌, ◌≤◌, min, max, nat_le, nat_lt}
+use Rattle.std.specs.Prelude.{◌≡◌, ℕ, ◌+◌, ◌-◌, ◌*◌, ◌^◌, ◌≤◌, min, max, nat_le, nat_lt}
 use Rattle.std.specs.Prelude.{Bool, true, false, ◌&&◌, if◌then◌else◌, Some, None, Option}
 use Rattle.std.specs.Prelude.{List, replicate, slice_index, slice_set}
 use Rattle.tariff.specs.Tariff.{in_tariff}
@@ -13,7 +13,6 @@ use Rattle.chooser.specs.declared.entry.ListKind.TheVariants.{Credit, Extra}
 use Rattle.chooser.specs.Limits.{places, longest}
 use Rattle.chooser.specs.Offers.{offered_at}
 use Rattle.chooser.specs.Picks.{first_by}
-use Rattle.least_served.specs.declared.counts.TheConstants.{STOP}
 use Rattle.least_served.specs.declared.counts.LeastServed.{LeastServed}
 
 -- ---- the counts
@@ -60,7 +59,7 @@ PicksLeastServed c list es (Some place) = IsLeastServed c list es place
 -- ---- the tellings
 -- a count stops at 2^63 - 1
 abbrev pub stopped : ℕ → ℕ
-stopped n = min n STOP
+stopped n = min n (2 ^ 63 - 1)
 
 -- a serving is counted if place, length and price can be
 abbrev pub countable : ℕ → ℕ → ℕ → Bool

@@ -28,8 +28,8 @@ no_count_stops keep all calls k =
       (λ list place.
           low x.turns (count_at x.chooser list place) (servings heard.0)
           (subst (λ (c : LeastServed). count_at c list place ≤ 1107025920 * servings heard.0) (sym same)
-          (counts_stay_low heard.0 list place)) few turns),
-      (heard.0, few, same ∙ never_stops heard.0 (omega arith)),
+          (counts_stay_low.as_meant heard.0 list place)) few turns),
+      (heard.0, few, same ∙ never_stops.as_meant heard.0 (omega arith)),
     )
 
 pub promised : (keep : ℕ) → AllPromises least_served_meaning (new keep unserved) →
