@@ -90,7 +90,13 @@ fn offers_take_what_is_sound(rt: HostRuntime) -> Result<(), Fail> {
         price: 102_960,
     };
     assert_eq!(rt; offer.at(3), Some(entry));
-    assert_eq!(rt; offer.at(4), Some(Entry::unoffered()));
+    let other = Entry {
+        offered: false,
+        lag: 0,
+        rate: 1,
+        price: 720_720,
+    };
+    assert_eq!(rt; offer.at(4), Some(other));
     assert_eq!(rt; offer.at(64), None);
     Ok(())
 }
