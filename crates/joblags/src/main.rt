@@ -1,8 +1,10 @@
 //! Plays a recording into a cell, and prints how its places stand: at the end, and after every Nth record if asked.
 #![tactic(auto)]
 
+mod asked;
 mod balance;
 mod due;
+mod end;
 mod play;
 mod program;
 mod sheet;

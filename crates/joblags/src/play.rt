@@ -1,14 +1,16 @@
 // Playing a recording, with a sheet whenever one is due.
-ghost use Rattle.std.specs.Prelude.{◌≡◌, IfOk, IfSome, OnOk, Some, length};
+ghost use Rattle.std.specs.Prelude.{◌≡◌, IfOk, IfSome, OnOk, Some};
 ghost use Rattle.std.specs.Io.KnownBytes.{Appends};
 ghost use Rattle.cell.specs.View.{view};
 ghost use Rattle.model.specs.History.{after};
 ghost use Rattle.chooser.specs.Meaning.{meant};
 ghost use Rattle.recording.specs.Recordings.{recording};
 ghost use Rattle.replay.specs.Events.{calls_in};
+ghost use Rattle.joblags.specs.Ends.{EndOf};
 ghost use Rattle.joblags.specs.Jobs.{due_sheet, due_sheets, job_text, last_sheet, stopped_line, stopped_words};
 
 use crate::due::due;
+use crate::end::End;
 use crate::sheet::Sheet;
 use answer::Fault;
 use cell::Cell;
@@ -20,13 +22,6 @@ use std::alloc::Global;
 use std::io::{BufReader, BufWriter, Read, Write};
 use std::num::NonZeroU64;
 use std::{fmt, io};
-
-// How a recording ended: the records that were played, and the fault of the next one.
-#[derive(Clone, Copy)]
-struct End {
-    played: u64,
-    fault: Option<Fault>,
-}
 
 // Why nothing more was played. Crews read other words here than in a listing, which has a `Stopped` of its own.
 #[derive(Drop)]
@@ -101,7 +96,7 @@ fn play_all<C: Chooser, R: Read + Drop, W: Write>(
     ensures after { OnOk result (IfSome (R.remaining reader) (λ bytes.
         view cell.new ≡ after (meant C.Chooser) (view cell.old) (calls_in (recording RECORDS 1 bytes).events))) }
     ensures end { IfOk result (λ end. IfSome (R.remaining reader) (λ bytes.
-        (end.played ≡ length (recording RECORDS 1 bytes).events) × (end.fault ≡ (recording RECORDS 1 bytes).fault))) }
+        EndOf (recording RECORDS 1 bytes) end)) }
 {
     let mut played = 0;
     for record in Records::new(reader) {
@@ -122,48 +117,48 @@ fn play_all<C: Chooser, R: Read + Drop, W: Write>(
     Ok(End { played, fault })
 }
 
-// Plays a recording and ends with its last sheet, unless that was due anyway; answers the fault that ended it.
+// Plays a recording and ends with its last sheet, unless that was due anyway; answers how it ended.
 fn play<C: Chooser, R: Read + Drop, W: Write>(
     cell: &mut Cell<C>,
     every: Option<NonZeroU64>,
     reader: R,
     out: &mut W,
-) -> io::Result<Option<Fault>>
+) -> io::Result<End>
     ensures text { OnOk result (IfSome (R.remaining reader) (λ bytes.
         Appends (W.contents out.old) (W.contents out.new)
         (job_text (meant C.Chooser) every (view cell.old) (recording RECORDS 1 bytes)))) }
     ensures after { OnOk result (IfSome (R.remaining reader) (λ bytes.
         view cell.new ≡ after (meant C.Chooser) (view cell.old) (calls_in (recording RECORDS 1 bytes).events))) }
-    ensures fault { IfOk result (λ fault. IfSome (R.remaining reader) (λ bytes.
-        fault ≡ (recording RECORDS 1 bytes).fault)) }
+    ensures end { IfOk result (λ end. IfSome (R.remaining reader) (λ bytes.
+        EndOf (recording RECORDS 1 bytes) end)) }
 {
     let end = play_all(cell, every, reader, out)?;
     print_fault(end.fault, out)?;
     print_last(cell, every, end.played, out)?;
-    Ok(end.fault)
+    Ok(end)
 }
 
-// Plays the records of an input, and gives the output back with all of the sheets written out, with the fault that ended
-// the recording.
+// Plays the records of an input, and gives the output back with all of the sheets written out, and
+// how the recording ended.
 pub(crate) fn play_through<C: Chooser, R: Read + Drop, W: Write + Drop>(
     alloc: Global,
     cell: &mut Cell<C>,
     every: Option<NonZeroU64>,
     input: R,
     out: W,
-) -> io::Result<(W, Option<Fault>)>
+) -> io::Result<(W, End)>
     ensures text { IfOk result (λ played. IfSome (R.remaining input) (λ bytes.
         Appends (W.contents out) (W.contents played.0)
         (job_text (meant C.Chooser) every (view cell.old) (recording RECORDS 1 bytes)))) }
     ensures after { OnOk result (IfSome (R.remaining input) (λ bytes.
         view cell.new ≡ after (meant C.Chooser) (view cell.old) (calls_in (recording RECORDS 1 bytes).events))) }
-    ensures fault { IfOk result (λ played. IfSome (R.remaining input) (λ bytes.
-        played.1 ≡ (recording RECORDS 1 bytes).fault)) }
+    ensures end { IfOk result (λ played. IfSome (R.remaining input) (λ bytes.
+        EndOf (recording RECORDS 1 bytes) played.1)) }
 {
     let reader = BufReader::new(alloc, input.take(BYTES))?;
     let mut writer = BufWriter::new(alloc, out)?;
-    let fault = play(cell, every, reader, &mut writer)?;
+    let end = play(cell, every, reader, &mut writer)?;
     writer.flush()?;
     let (out, _) = writer.into_parts();
-    Ok((out, fault))
+    Ok((out, end))
 }

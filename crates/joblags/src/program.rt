@@ -1,4 +1,10 @@
 // The program.
+ghost use Rattle.std.specs.Prelude.{codes};
+ghost use Rattle.clap.specs.Words.{found_of, one_text};
+ghost use Rattle.joblags.specs.Words.{AskedFor};
+
+use crate::asked::{EVERY, every};
+use crate::end::ended;
 use crate::play::play_through;
 use clap::{Arg, ArgMatches, Command, value_parser};
 use cli::{Failure, Program, Reads};
@@ -7,8 +13,6 @@ use replay::new_cell;
 use std::alloc::{AllocError, Global};
 use std::io::{Read, Write};
 use std::num::NonZeroU64;
-
-const EVERY: &str = "every";
 
 // Job sheets: at the end, and after every so many records if asked.
 #[derive(Drop)]
@@ -33,9 +37,11 @@ impl Program for JobLags {
         command.arg(every)
     }
 
-    fn chosen(matches: &ArgMatches<'_>) -> JobLags {
+    fn chosen(matches: &ArgMatches<'_>) -> JobLags
+        ensures { AskedFor (one_text (found_of matches.now) (codes "every")) result.every }
+    {
         JobLags {
-            every: matches.get_one::<u64>(EVERY).and_then(NonZeroU64::new),
+            every: every(matches),
         }
     }
 
@@ -46,9 +52,7 @@ impl Program for JobLags {
         output: W,
     ) -> Result<(), Failure> {
         let mut cell = new_cell(LeastServed::new());
-        match play_through(alloc, &mut cell, self.every, input, output)? {
-            (_, None) => Ok(()),
-            (_, Some(fault)) => Err(Failure::Fault(anyhow::Error::from(fault))),
-        }
+        let (_, end) = play_through(alloc, &mut cell, self.every, input, output)?;
+        ended(end)
     }
 }

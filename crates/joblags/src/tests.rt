@@ -1,7 +1,8 @@
 // What is printed of a short recording. The sheet follows from CREWS.md and RECORDS.md.
+use crate::end::{End, ended};
 use crate::play::play_through;
 use crate::program::JobLags;
-use cli::tried;
+use cli::{Failure, tried};
 use least_served::LeastServed;
 use replay::new_cell;
 use std::alloc::Global;
@@ -17,6 +18,19 @@ const LAST_PLACE: [u8; 32] = *b"O\x3f\0\0\x50\xff\x0a\0--------A\x3f\x64\0\x07\0
 const SHEET: &str = "\
 after record 2 mark 0 booked 720720 turns 0
 place 63 rate 720720 time                0 lag           0 -     channel good waiting  1
+";
+
+// Another frame of 50 bytes waits there, and a turn sends the first: 100 bytes at price 1. The place
+// stays active, so the mark is its time.
+const A_TURN: &[u8] = b"\
+O\x3f\0\0\x50\xff\x0a\0--------\
+A\x3f\x64\0\x07\0\0\0--------\
+A\x3f\x32\0\x08\0\0\0--------\
+T\0\0\0\0\0\0\0--------";
+
+const AFTER_IT: &str = "\
+after record 4 mark 100 booked 720720 turns 1
+place 63 rate 720720 time              100 lag           0 -     channel good waiting  1
 ";
 
 // A sheet after every second record, and so after the last one: it is the one at the end too.
@@ -55,6 +69,14 @@ fn good_and_empty(rt: HostRuntime) -> Result<(), Fail> {
     comes_out(&rt, rt.alloc(), &["joblags"], b"", (0, nobody, ""))
 }
 
+// One sheet of four records, whether nothing is asked for or 0.
+#[test]
+fn the_end_alone(rt: HostRuntime) -> Result<(), Fail> {
+    comes_out(&rt, rt.alloc(), &["joblags"], A_TURN, (0, AFTER_IT, ""))?;
+    let words = ["joblags", "--every", "0"];
+    comes_out(&rt, rt.alloc(), &words, A_TURN, (0, AFTER_IT, ""))
+}
+
 #[test]
 fn cut_and_faulty(rt: HostRuntime) -> Result<(), Fail> {
     let cut = "stopped at record 1 refusal 1 byte 7\nafter record 0 mark 0 booked 0 turns 0\n";
@@ -77,6 +99,24 @@ fn cut_and_faulty(rt: HostRuntime) -> Result<(), Fail> {
         b"X\0\0\0\0\0\0\0--------",
         (1, faulty, why),
     )
+}
+
+// A million records may not be all of the input.
+#[test]
+fn the_limit_is_told(rt: HostRuntime) -> Result<(), Fail> {
+    let fault = None;
+    let played = 1_000_000;
+    let Err(Failure::Fault(said)) = ended(End { played, fault }) else {
+        return Err(Fail::new("the limit is no failure"));
+    };
+    let told = format!(in rt.alloc(); "{said:#}")?;
+    assert_eq!(rt;
+        told.as_str(),
+        "1000000 records were played, and nothing past them was read"
+    );
+    let played = 999_999;
+    assert!(rt; ended(End { played, fault }).is_ok());
+    Ok(())
 }
 
 #[test]

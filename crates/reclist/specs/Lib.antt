@@ -1,3 +1,4 @@
 pub mod Tallies
 pub mod Words
 pub mod Listing
+pub mod Ends

@@ -3,9 +3,11 @@ ghost use Rattle.std.specs.Prelude.{◌≡◌, IfOk, IfSome, OnOk};
 ghost use Rattle.std.specs.Io.KnownBytes.{Appends};
 ghost use Rattle.record.specs.Layout.{contents};
 ghost use Rattle.recording.specs.Recordings.{recording};
+ghost use Rattle.reclist.specs.Ends.{EndOf};
 ghost use Rattle.reclist.specs.Listing.{event_line, event_lines, fault_line, listing, number_words, total_line};
 ghost use Rattle.reclist.specs.Tallies.{empty, tallied};
 
+use crate::end::End;
 use crate::form::Form;
 use crate::tally::Tally;
 use crate::words::Stopped;
@@ -84,34 +86,36 @@ fn list_events<R: Read + Drop, W: Write>(
     Ok((tally, None))
 }
 
-// Lists the records, and what they add up to; answers the fault that ended them.
-fn list<R: Read + Drop, W: Write>(reader: R, out: &mut W, form: Form) -> io::Result<Option<Fault>>
+// Lists the records, and what they add up to; answers how they ended.
+fn list<R: Read + Drop, W: Write>(reader: R, out: &mut W, form: Form) -> io::Result<End>
     ensures printed { OnOk result (IfSome (R.remaining reader) (λ bytes.
         Appends (W.contents out.old) (W.contents out.new) (listing form (recording RECORDS 1 bytes)))) }
-    ensures fault { IfOk result (λ fault. IfSome (R.remaining reader) (λ bytes.
-        fault ≡ (recording RECORDS 1 bytes).fault)) }
+    ensures end { IfOk result (λ end. IfSome (R.remaining reader) (λ bytes.
+        EndOf (recording RECORDS 1 bytes) end)) }
 {
     let (tally, fault) = list_events(reader, out, form)?;
     list_total(out, form, &tally)?;
-    Ok(fault)
+    let listed = tally.records();
+    Ok(End { listed, fault })
 }
 
-// Lists the records of an input, and gives the output back with all of it written out, with the fault that ended them.
+// Lists the records of an input, and gives the output back with all of it written out, and how they
+// ended.
 pub(crate) fn list_all<R: Read + Drop, W: Write + Drop>(
     alloc: Global,
     input: R,
     out: W,
     form: Form,
-) -> io::Result<(W, Option<Fault>)>
+) -> io::Result<(W, End)>
     ensures printed { IfOk result (λ listed. IfSome (R.remaining input) (λ bytes.
         Appends (W.contents out) (W.contents listed.0) (listing form (recording RECORDS 1 bytes)))) }
-    ensures fault { IfOk result (λ listed. IfSome (R.remaining input) (λ bytes.
-        listed.1 ≡ (recording RECORDS 1 bytes).fault)) }
+    ensures end { IfOk result (λ listed. IfSome (R.remaining input) (λ bytes.
+        EndOf (recording RECORDS 1 bytes) listed.1)) }
 {
     let reader = BufReader::new(alloc, input.take(BYTES))?;
     let mut writer = BufWriter::new(alloc, out)?;
-    let fault = list(reader, &mut writer, form)?;
+    let end = list(reader, &mut writer, form)?;
     writer.flush()?;
     let (out, _) = writer.into_parts();
-    Ok((out, fault))
+    Ok((out, end))
 }

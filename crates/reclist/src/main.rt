@@ -1,6 +1,7 @@
 //! Prints a recording in words, event by event, and what it adds up to.
 #![tactic(auto)]
 
+mod end;
 mod form;
 mod list;
 mod program;

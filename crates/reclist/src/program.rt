@@ -1,4 +1,5 @@
 // The program.
+use crate::end::ended;
 use crate::form::Form;
 use crate::list::list_all;
 use clap::{Arg, ArgAction, ArgMatches, Command};
@@ -43,9 +44,7 @@ impl Program for RecList {
         input: R,
         output: W,
     ) -> Result<(), Failure> {
-        match list_all(alloc, input, output, self.form)? {
-            (_, None) => Ok(()),
-            (_, Some(fault)) => Err(Failure::Fault(anyhow::Error::from(fault))),
-        }
+        let (_, end) = list_all(alloc, input, output, self.form)?;
+        ended(end)
     }
 }

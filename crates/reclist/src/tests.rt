@@ -1,6 +1,7 @@
 // The program on words and recordings, and all that comes out.
+use crate::end::{End, ended};
 use crate::program::RecList;
-use cli::tried;
+use cli::{Failure, tried};
 use std::alloc::Global;
 use std::process::Abort;
 use std::rt::Files;
@@ -111,6 +112,24 @@ fn a_fault_ends_the_list(rt: HostRuntime) -> Result<(), Fail> {
             "reclist: refusal 2: byte 0 is none of O, C, A, G, B, T, layer record, record 1, byte 0\n",
         ),
     )
+}
+
+// A million records may not be all of the input.
+#[test]
+fn the_limit_is_told(rt: HostRuntime) -> Result<(), Fail> {
+    let fault = None;
+    let listed = 1_000_000;
+    let Err(Failure::Fault(said)) = ended(End { listed, fault }) else {
+        return Err(Fail::new("the limit is no failure"));
+    };
+    let told = format!(in rt.alloc(); "{said:#}")?;
+    assert_eq!(rt;
+        told.as_str(),
+        "1000000 records were listed, and nothing past them was read"
+    );
+    let listed = 999_999;
+    assert!(rt; ended(End { listed, fault }).is_ok());
+    Ok(())
 }
 
 #[test]

@@ -1,4 +1,3 @@
-use Rattle.std.proofs.lemmas.Option.{IfSome_then}
 use Rattle.cell.specs.View.{view}
 use Rattle.chooser.specs.Meaning.{meant}
 use Rattle.joblags.proofs.Going.{job_all}
@@ -10,6 +9,3 @@ returns-clause-text g c =
     (g.W.Write.contents c.args.out.now) (g.W.Write.contents c.play_all.new.out) (g.W.Write.contents c.print_fault.new.out) (g.W.Write.contents c.print_last.new.out)
     (view c.play_all.new.cell) c.in_ok-end.end.played c.in_ok-end.end.fault
     c.in_ok-end.ensures.sheets c.in_ok-end.ensures.after c.in_ok-end.ensures.end c.in_ok-print_fault.ensures c.in_ok-print_last.ensures
-
-pub returns-clause-fault : goal.returns-clause-fault
-returns-clause-fault g c = IfSome_then (g.R.Read.remaining c.args.reader) c.in_ok-end.ensures.end (λ bytes h. h.1)

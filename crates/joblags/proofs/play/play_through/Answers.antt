@@ -7,6 +7,7 @@ use Rattle.chooser.specs.Meaning.{meant}
 use Rattle.recording.specs.declared.TheConstants.{RECORDS}
 use Rattle.recording.proofs.Limit.{all_through, drained_into, read_through}
 use Rattle.replay.specs.Events.{calls_in}
+use Rattle.joblags.specs.Ends.{EndOf}
 use Rattle.joblags.specs.Jobs.{job_text}
 use Rattle.joblags.proofs.play.play_through.Goals as goal
 
@@ -23,7 +24,7 @@ returns-clause-text g c =
     c.in_ok-flush.ensures.bytes
     (drained_into (g.W.Write.contents (writer_inner c.flush.new.self)) (writer_buffer c.flush.new.self) _ c.in_ok-flush.ensures.ok
     (ap g.W.Write.contents c.into_parts-out.ensures.inner))
-    c.in_ok-fault.ensures.text
+    c.in_ok-end.ensures.text
 
 pub returns-clause-after : goal.returns-clause-after
 returns-clause-after g c =
@@ -33,13 +34,13 @@ returns-clause-after g c =
     c.in_ok-reader.ensures.empty
     (ap (λ t. t.limit) c.in_ok-reader.ensures.inner ∙ c.take.ensures.limit)
     (ap (λ t. g.R.Read.remaining t.inner) c.in_ok-reader.ensures.inner ∙ ap g.R.Read.remaining c.take.ensures.inner)
-    c.in_ok-fault.ensures.after
+    c.in_ok-end.ensures.after
 
-pub returns-clause-fault : goal.returns-clause-fault
-returns-clause-fault g c =
-    read_through _ _ RECORDS _ (g.R.Read.remaining c.args.input) _ (λ r. c.in_ok-fault.fault ≡ r.fault)
+pub returns-clause-end : goal.returns-clause-end
+returns-clause-end g c =
+    read_through _ _ RECORDS _ (g.R.Read.remaining c.args.input) _ (λ r. EndOf r c.in_ok-end.end)
     c.in_ok-reader.ensures.capacity
     c.in_ok-reader.ensures.empty
     (ap (λ t. t.limit) c.in_ok-reader.ensures.inner ∙ c.take.ensures.limit)
     (ap (λ t. g.R.Read.remaining t.inner) c.in_ok-reader.ensures.inner ∙ ap g.R.Read.remaining c.take.ensures.inner)
-    c.in_ok-fault.ensures.fault
+    c.in_ok-end.ensures.end
