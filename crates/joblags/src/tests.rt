@@ -134,3 +134,11 @@ fn words_are_told(rt: HostRuntime) -> Result<(), Fail> {
         (2, "", refused),
     )
 }
+
+#[test]
+fn every_stands_once(rt: HostRuntime) -> Result<(), Fail> {
+    let refused =
+        "error: the argument '--every <N>' cannot be used multiple times\n\nUsage: joblags [OPTIONS] [FILE]\n\nFor more information, try '--help'.\n";
+    let words = ["joblags", "--every", "2", "--every", "3"];
+    comes_out(&rt, rt.alloc(), &words, b"", (2, "", refused))
+}
