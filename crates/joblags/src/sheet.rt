@@ -3,7 +3,7 @@ ghost use Rattle.std.specs.Prelude.{◌≡◌, Some};
 ghost use Rattle.cell.specs.Asked.{standings};
 ghost use Rattle.cell.specs.View.{view};
 ghost use Rattle.model.specs.Calls.{asked};
-ghost use Rattle.joblags.specs.Sheets.{channel_word, head_of, head_words, line_of, line_words, row_words};
+ghost use Rattle.joblags.specs.Sheets.{channel_word, head_of, head_words, line_of, line_words};
 ghost use Rattle.joblags.specs.Sheets.{session_words, sheet_words, waiting_words};
 
 use crate::balance::Balance;
@@ -135,21 +135,6 @@ impl fmt::Display for Line {
     }
 }
 
-// The line of a place with its end, and nothing where the place isn't open.
-#[derive(Drop)]
-struct Row(Option<Line>);
-
-impl fmt::Display for Row {
-    ghost output = { λ row. Some (row_words row.0) };
-
-    fn fmt<W: fmt::Write>(&self, f: &mut fmt::Formatter<W>) -> fmt::Result {
-        match self.0 {
-            Some(line) => writeln!(f, "{line}"),
-            None => Ok(()),
-        }
-    }
-}
-
 #[derive(Drop)]
 pub(crate) struct Sheet<'a, C> {
     pub after: u64,
@@ -162,7 +147,9 @@ impl<C> fmt::Display for Sheet<'_, C> {
     fn fmt<W: fmt::Write>(&self, f: &mut fmt::Formatter<W>) -> fmt::Result {
         writeln!(f, "{}", Head::of(self.cell, self.after))?;
         for place in 0..PLACES as u8 {
-            write!(f, "{}", Row(Line::of(self.cell, place)))?;
+            if let Some(line) = Line::of(self.cell, place) {
+                writeln!(f, "{line}")?;
+            }
         }
         Ok(())
     }
