@@ -1,3 +1,4 @@
 pub mod Statuses
 pub mod Sources
 pub mod Progressing
+pub mod Choosing

@@ -1,5 +1,5 @@
 -- The status that a program ends with, and what an error of input or output makes of it.
-use Rattle.std.specs.Prelude.{◌≡◌, ◌≢◌, ℕ, Bool, true, false, nat_lt, Ok, Err, Result}
+use Rattle.std.specs.Prelude.{◌≡◌, ◌≢◌, ℕ, Bool, true, false, nat_lt, ◌==◌, ◌||◌, Ok, Err, Result}
 use Rattle.std.specs.IoError.{error_kind}
 use Rattle.std.specs.declared.io.Error.{Error}
 use Rattle.std.specs.declared.io.ErrorKind.TheVariants.{BrokenPipe}
@@ -21,6 +21,10 @@ status_of faulty (Err (Fault said)) = faulty
 status_of faulty (Err (Trouble said)) = 2
 status_of faulty (Err Closed) = 0
 status_of faulty (Err (Words said)) = words_status (kind_of said)
+
+-- the statuses that a program can end with, by its own for a fault of the input
+abbrev pub is_status : ℕ → ℕ → Bool
+is_status faulty status = status == 0 || (status == 2 || status == faulty)
 
 -- what is said on the error output: all but the help and the version, which were asked for
 abbrev pub is_told : Result (Unit {0}) Failure → Bool

@@ -1,11 +1,14 @@
 // Why a program ends before it is done, and the status that it ends with.
-ghost use Rattle.std.specs.Prelude.{◌≡◌};
-ghost use Rattle.cli.specs.Statuses.{IsFailureOf, IsTrouble, status_of};
+ghost use Rattle.std.specs.Prelude.{◌≡◌, true};
+ghost use Rattle.cli.specs.Statuses.{IsFailureOf, IsTrouble, is_status, status_of};
 ghost use Rattle.cli.specs.declared.failure.Failure.TheVariants.{Words};
 
 use std::alloc::{AllocError, AllocFailed};
 use std::io;
 use std::io::ErrorKind;
+
+/// The status of a program whose input has a fault, or goes on past the limit of records.
+pub const FAULTY: u8 = 1;
 
 /// Why a program ends before it has done all that it was asked for.
 #[derive(Debug, Drop)]
@@ -57,9 +60,10 @@ impl From<clap::Error> for Failure {
 }
 
 /// The status that a program ends with: 0 where all is good, help and version among it, and where the output was closed;
-/// `faulty` where the input has a fault; 2 for mistaken words, and where reading, writing or memory failed.
+/// `faulty` where the input has a fault, `FAULTY` in all programs; 2 for mistaken words, and where reading, writing or memory failed.
 pub fn status(faulty: u8, outcome: &Result<(), Failure>) -> u8
-    ensures { result ≡ status_of faulty outcome.now }
+    ensures is { result ≡ status_of faulty outcome.now }
+    ensures known { is_status faulty result ≡ true }
 {
     match outcome {
         Ok(()) | Err(Failure::Closed) => 0,

@@ -13,7 +13,7 @@ mod start;
 mod tests;
 mod trial;
 
-pub use failure::{Failure, status};
+pub use failure::{FAULTY, Failure, status};
 pub use hall::{ChooserName, Hall};
 pub use input::{Input, Source};
 pub use program::{Program, Reads};

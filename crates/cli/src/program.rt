@@ -25,9 +25,6 @@ pub trait Program: Sized + Drop {
 
     const READS: Reads;
 
-    /// The status that it ends with where the input has a fault.
-    const FAULTY: u8 = 1;
-
     /// Adds the options of its own to those that all programs have: FILE, `--help` and `--version`.
     fn options<'a>(_alloc: Global, command: Command<'a>) -> Result<Command<'a>, AllocError> {
         Ok(command)

@@ -33,7 +33,13 @@ pub struct Progress<'a, R, E> {
 
 impl<'a, R, E> Progress<'a, R, E> {
     /// Nothing has passed yet. Progress goes to `errors`, headed by the program's name, where it is `told`.
-    pub fn new(name: &'static str, input: R, told: bool, errors: &'a mut E) -> Progress<'a, R, E> {
+    pub fn new(name: &'static str, input: R, told: bool, errors: &'a mut E) -> Progress<'a, R, E>
+        ensures input { result.input ≡ input }
+        ensures passed { result.passed ≡ 0 }
+        ensures told { result.told ≡ told }
+        ensures name { result.name.now ≡ name.now }
+        ensures errors { result.errors.now ≡ errors.old }
+    {
         Progress {
             name,
             input,

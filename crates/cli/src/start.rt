@@ -1,8 +1,9 @@
 // A program, from its words to its status.
-ghost use Rattle.std.specs.Prelude.{◌≡◌, false};
-ghost use Rattle.cli.specs.Statuses.{is_shown, is_told, status_of};
+ghost use Rattle.std.specs.Prelude.{◌≡◌, false, true};
+ghost use Rattle.std.specs.Process.{exit_status};
+ghost use Rattle.cli.specs.Statuses.{is_shown, is_status, is_told, status_of};
 
-use crate::{Failure, Input, Program, Progress, Reads, Source, status};
+use crate::{FAULTY, Failure, Input, Program, Progress, Reads, Source, status};
 use anyhow::Context;
 use clap::error::ErrorKind;
 use clap::{Arg, Command};
@@ -29,8 +30,10 @@ pub struct Start<'a, F, S> {
     pub errors_are_terminal: bool,
 }
 
-/// Runs a program on the words and streams that the process was started with.
-pub fn main<P: Program>(rt: &HostRuntime) -> ExitCode {
+/// Runs a program on the words and streams that the process was started with. It ends with status 0, 1 or 2.
+pub fn main<P: Program>(rt: &HostRuntime) -> ExitCode
+    ensures { is_status FAULTY (exit_status result) ≡ true }
+{
     let (mut output, mut errors) = (rt.stdout(), rt.stderr());
     let status = match words(rt) {
         Ok(words) => {
@@ -43,7 +46,7 @@ pub fn main<P: Program>(rt: &HostRuntime) -> ExitCode {
             };
             run::<P, _, _, _, _, _>(start, rt.stdin(), &mut output, &mut errors)
         }
-        Err(failure) => ended(P::NAME, P::FAULTY, Err(failure), &mut output, &mut errors),
+        Err(failure) => ended(P::NAME, FAULTY, Err(failure), &mut output, &mut errors),
     };
     ExitCode::from(status)
 }
@@ -52,15 +55,17 @@ fn words(rt: &HostRuntime) -> Result<Vec<String>, Failure> {
     Ok(env::args(rt)?.collect(rt.alloc())?)
 }
 
-/// Runs a program on an input and two outputs, and answers the status. What went wrong is told on `errors`.
+/// Runs a program on an input and two outputs, and answers the status: 0, 1 or 2. What went wrong is told on `errors`.
 pub fn run<P: Program, F: Files, S: AsStr, I: Read + Drop, O: Write, E: Write>(
     start: Start<'_, F, S>,
     input: I,
     output: &mut O,
     errors: &mut E,
-) -> u8 {
+) -> u8
+    ensures { is_status FAULTY result ≡ true }
+{
     let outcome = attempt::<P, F, S, I, O, E>(start, input, output, errors);
-    ended(P::NAME, P::FAULTY, outcome, output, errors)
+    ended(P::NAME, FAULTY, outcome, output, errors)
 }
 
 fn attempt<P: Program, F: Files, S: AsStr, I: Read + Drop, O: Write, E: Write>(
@@ -122,6 +127,7 @@ fn ended<O: Write, E: Write>(
     errors: &mut E,
 ) -> u8
     ensures status { result ≡ status_of faulty outcome }
+    ensures known { is_status faulty result ≡ true }
     ensures output { is_shown outcome ≡ false → output.new ≡ output.old }
     ensures errors { is_told outcome ≡ false → errors.new ≡ errors.old }
 {

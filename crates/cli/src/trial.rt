@@ -1,5 +1,8 @@
 // A program run on words and bytes, for its tests.
-use crate::{Program, Start, run};
+ghost use Rattle.std.specs.Prelude.{◌≡◌, true};
+ghost use Rattle.cli.specs.Statuses.{is_status};
+
+use crate::{FAULTY, Program, Start, run};
 use std::alloc::Global;
 use std::rt::Files;
 
@@ -12,12 +15,9 @@ pub struct Trial {
 }
 
 /// Runs a program on words, the program's name first, and on the bytes of an input, away from any terminal.
-pub fn tried<P: Program, F: Files>(
-    files: &F,
-    alloc: Global,
-    words: &[&str],
-    input: &[u8],
-) -> Trial {
+pub fn tried<P: Program, F: Files>(files: &F, alloc: Global, words: &[&str], input: &[u8]) -> Trial
+    ensures { is_status FAULTY result.status ≡ true }
+{
     let start = Start {
         files,
         alloc,

@@ -47,11 +47,6 @@ impl Got {
         }
     }
 
-    /// Whether the place has been open.
-    pub fn was_open(self) -> bool {
-        self.rate != 0
-    }
-
     fn with_rate(self, standing: Standing) -> Got
         ensures { result ≡ with_rate standing self }
     {
