@@ -28,6 +28,10 @@ nothing = record {
   lowest = pos 0;
 }
 
+-- a place that was open has the rate of its last session, closed or not, and a rate is never 0
+abbrev pub was_open : Got → Bool
+was_open g = not (g.rate == 0)
+
 abbrev pub with_rate : Standing → Got → Got
 with_rate s g = record g { rate = s.rate; price = s.price }
 

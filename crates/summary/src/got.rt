@@ -29,7 +29,7 @@ pub struct Got {
 impl Got {
     ghost use Rattle.std.specs.Prelude.{◌≡◌};
     ghost use Rattle.record.specs.Layout.{contents};
-    ghost use Rattle.summary.specs.Getting.{by_turn, got_after, nothing, with_lag, with_lost, with_rate, with_sent};
+    ghost use Rattle.summary.specs.Getting.{by_turn, got_after, nothing, was_open, with_lag, with_lost, with_rate, with_sent};
 
     /// Nothing yet, and never open.
     pub fn new() -> Got
@@ -45,6 +45,13 @@ impl Got {
             highest: 0,
             lowest: 0,
         }
+    }
+
+    /// Whether the place has been open.
+    pub fn was_open(self) -> bool
+        ensures { result ≡ was_open self }
+    {
+        self.rate != 0
     }
 
     fn with_rate(self, standing: Standing) -> Got

@@ -5,6 +5,8 @@ mod counting;
 mod got;
 mod printing;
 mod sums;
+#[cfg(test)]
+mod tests;
 mod turns;
 
 pub use got::Got;
